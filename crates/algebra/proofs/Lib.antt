@@ -1,0 +1,4 @@
+pub mod Digits
+pub mod Dots
+pub mod RowLaws
+pub mod Examples

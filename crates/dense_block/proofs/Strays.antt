@@ -1,0 +1,66 @@
+-- Columns at or above a bound: the rest of one word, or a word above it. A row without them is a number below 2 ^ q.
+use Prim.Native.Nat.{ℕ, zero, suc, _+_, _-_, _*_, _/_, _%_, _^_, _≤_, _<_}
+use native.Mathlib.Nat.{zero-add, one-mul, mul-zero, mul-le-mul-right, div-lt-iff-lt-mul}
+use native.Mathlib.Omega.{arith}
+use mathlib.Core.Path.{_≡_, sym, ap, _∙_}
+use mathlib.Core.List.{List}
+use mathlib.Core.Bool.{true, false}
+use borrow.Author.Tests.{lt-ltb, le-ltb, ltb-false}
+use lib.Dec.{ltb}
+use lib.ListN.{length, getD, drop, drop-of-length-le}
+use lib.Pow.{pow-pos}
+use Rattle.dense_block.specs.Words.{value, strays}
+use Rattle.dense_block.proofs.Values.{Words, value-drop, shift-drop, shift-low}
+
+-- what is left above q columns
+value-above : (ws : List ℕ) (q : ℕ) → Words ws
+    → value ws / 2 ^ q ≡ getD ws (q / 64) 0 / 2 ^ (q % 64) + 2 ^ (64 - q % 64) * value (drop (q / 64 + 1) ws)
+value-above ws q h =
+    let e : q ≡ 64 * (q / 64) + q % 64 = omega arith in
+    ap (λ (k : ℕ). value ws / 2 ^ k) e
+    ∙ shift-drop ws (q / 64) (q % 64) h
+    ∙ ap (λ (x : ℕ). x / 2 ^ (q % 64)) (value-drop ws (q / 64))
+    ∙ shift-low (value (drop (q / 64 + 1) ws)) (getD ws (q / 64) 0) (q % 64) (omega arith)
+
+pos-shl : (k v : ℕ) → ltb 0 (2 ^ k * v) ≡ ltb 0 v
+pos-shl k zero = rw mul-zero
+pos-shl k (suc v) =
+    lt-ltb 0 (2 ^ k * suc v) (omega (arith, mul-le-mul-right (suc v) (pow-pos k), one-mul (suc v)))
+    ∙ sym (lt-ltb 0 (suc v) (omega arith))
+
+-- a digit of the word of column q, at q or above
+pub strays-here : (ws : List ℕ) (q : ℕ) → Words ws → (getD ws (q / 64) 0 / 2 ^ (q % 64) ≡ 0 → ⊥) → true ≡ strays ws q
+unfolding strays
+strays-here ws q h n = sym (lt-ltb 0 (value ws / 2 ^ q) (omega (arith, value-above ws q h)))
+
+-- none there: the words above decide
+pub strays-above : (ws : List ℕ) (q : ℕ) → Words ws → getD ws (q / 64) 0 / 2 ^ (q % 64) ≡ 0 → strays ws q ≡ ltb 0 (value (drop (q / 64 + 1) ws))
+unfolding strays
+strays-above ws q h z =
+    ap (ltb 0) (value-above ws q h ∙ ap (λ (x : ℕ). x + 2 ^ (64 - q % 64) * value (drop (q / 64 + 1) ws)) z ∙ zero-add _)
+    ∙ pos-shl (64 - q % 64) (value (drop (q / 64 + 1) ws))
+
+pub some-word : (ws : List ℕ) (i : ℕ) → (getD ws i 0 ≡ 0 → ⊥) → ltb 0 (value (drop i ws)) ≡ true
+some-word ws i n = lt-ltb 0 (value (drop i ws)) (omega (arith, value-drop ws i))
+
+pub no-word : (ws : List ℕ) (i : ℕ) → getD ws i 0 ≡ 0 → ltb 0 (value (drop i ws)) ≡ ltb 0 (value (drop (i + 1) ws))
+no-word ws i z =
+    ap (ltb 0) (value-drop ws i ∙ ap (λ (x : ℕ). x + 2 ^ 64 * value (drop (i + 1) ws)) z ∙ zero-add _)
+    ∙ pos-shl 64 (value (drop (i + 1) ws))
+
+pub no-more : (ws : List ℕ) (i : ℕ) → length ws ≤ i → ltb 0 (value (drop i ws)) ≡ false
+no-more ws i h = rw (drop-of-length-le ws h)
+
+-- ---- a row of q columns
+
+pub below-of : (ws : List ℕ) (q : ℕ) → strays ws q ≡ false → value ws < 2 ^ q
+unfolding strays
+below-of ws q h =
+    let low : value ws / 2 ^ q < 1 = omega (arith, ltb-false 0 (value ws / 2 ^ q) h) in
+    omega (arith, div-lt-iff-lt-mul (pow-pos q) .0 low)
+
+pub no-strays : (ws : List ℕ) (q : ℕ) → value ws < 2 ^ q → strays ws q ≡ false
+unfolding strays
+no-strays ws q h =
+    let low : value ws / 2 ^ q < 1 = div-lt-iff-lt-mul (pow-pos q) .1 (omega arith) in
+    le-ltb 0 (value ws / 2 ^ q) (omega arith)

@@ -1,0 +1,85 @@
+-- `dense_block::parity_and` meets its contract: what is counted and what is left have the parity of the whole.
+use Prim.Native.Nat.{ℕ, _+_, _-_, _%_, _≤_, _<_}
+use mathlib.Core.Path.{_≡_, ap}
+use native.Mathlib.Omega.{arith}
+use lib.Dec.{eqb}
+use lib.ListN.{getD, drop}
+use lib.Bits.{bitAnd, and-le-l}
+use lib.Count.{ones-le}
+use Rattle.algebra.specs.Rows.{common, dot}
+use Rattle.dense_block.specs.Words.{value, odd}
+use Rattle.dense_block.proofs.Commons.{common-step, common-end}
+use borrow.Author.Needs.{needs}
+use Rattle.dense_block.proofs.parity_and.Statement.{statement}
+use Rattle.dense_block.proofs.parity_and.Tie as tie
+
+abbrev Inv-loop : tie.InvT-loop
+Inv-loop a b n p₀ i₀ p i = (i ≤ n) × (p < 2) × ((p + common (value (drop i a)) (value (drop i b))) % 2 ≡ common (value a) (value b) % 2)
+
+abbrev μ-loop : tie.MeasureT-loop
+μ-loop a b n p₀ i₀ p i = n - i
+
+least-requires : tie.Need-least-requires Inv-loop μ-loop
+least-requires c κs = search needs
+
+loop-holds : tie.Need-loop-holds Inv-loop μ-loop
+loop-holds c = search needs
+
+mul-p : tie.Need-mul-p Inv-loop μ-loop
+mul-p c = search needs
+
+shared-slice-read-p : tie.Need-shared-slice-read-p Inv-loop μ-loop
+shared-slice-read-p c = search needs
+
+mul-p-2 : tie.Need-mul-p-2 Inv-loop μ-loop
+mul-p-2 c = search needs
+
+shared-slice-read-p-2 : tie.Need-shared-slice-read-p-2 Inv-loop μ-loop
+shared-slice-read-p-2 c = search needs
+
+add-p : tie.Need-add-p Inv-loop μ-loop
+add-p c =
+    let i = c .before .before .before .loop .i in
+    let a = c .before .before .before .before .before .before .before .args in
+    let h = and-le-l (getD (a .a .now) i 0) (getD (a .b .now) i 0) in
+    let k = c .before .shared-slice-known3 .given i in
+    omega (arith, ones-le 64 (bitAnd (getD (a .a .now) i 0) (getD (a .b .now) i 0)) (omega arith))
+
+add-i : tie.Need-add-i Inv-loop μ-loop
+add-i c = search needs
+
+loop-less : tie.Need-loop-less Inv-loop μ-loop
+loop-less c = search needs
+
+loop-again : tie.Need-loop-again Inv-loop μ-loop
+loop-again c =
+    let l = c .before .before .before .loop in
+    let s = c .before .before .before .before .before in
+    let a = s .before .before .args in
+    omega (arith, common-step (a .a .now) (a .b .now) (l .i) (λ i. s .before .shared-slice-known .given i .fits) (λ i. s .shared-slice-known2 .given i .fits))
+
+returns : tie.Need-returns Inv-loop μ-loop
+unfolding odd dot
+returns c =
+    let l = c .before .loop in
+    let a = c .before .before .before .before .before .args in
+    let e : l .p ≡ common (value (a .a .now)) (value (a .b .now)) % 2 = omega (arith, common-end (a .a .now) (a .b .now) (l .i) (omega arith)) in
+    ap (λ (x : ℕ). eqb x 1) e
+
+pub parity-and-spec : {M : Type 1} → statement M
+parity-and-spec =
+    tie.close
+    (tie.spec
+    Inv-loop
+    μ-loop
+    least-requires
+    loop-holds
+    mul-p
+    shared-slice-read-p
+    mul-p-2
+    shared-slice-read-p-2
+    add-p
+    add-i
+    loop-less
+    loop-again
+    returns)

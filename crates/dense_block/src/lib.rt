@@ -1,0 +1,174 @@
+// Bit rows packed into words: column j is bit j mod 64 of word j / 64. Every function is total, and over two rows it goes as far as the shorter, as `zip` does.
+//
+//   words_for                       how many words a row takes
+//   get_index, set_index            one column
+//   xor_assign                      a row added to another, word by word
+//   parity_and, and_count_ones      the common ones of two rows: their parity, their number
+//   clear, copy, same, stray        words made zero, copied and compared; a bit past the last column
+//   get_term                        a row of a block of rows
+
+ghost use mathlib.Core.Path.{_≡_};
+ghost use Prim.Native.Nat.{_%_, _^_, min};
+ghost use lib.ListN.{getD};
+ghost use Rattle.algebra.specs.Rows.{common};
+ghost use Rattle.dense_block.specs.Words.{value, wordsFor, column, put, xors, odd, zeroed, copied, alike, strays, termOf};
+
+// How many words a row of q columns takes.
+pub fn words_for(q: usize) -> usize
+    ensures { λ r. ⌜ r ≡ wordsFor q ⌝ }
+{
+    let whole = q / 64;
+    if q % 64 == 0 { whole } else { whole + 1 }
+}
+
+// The smaller of two numbers.
+fn least(a: usize, b: usize) -> usize
+    ensures { λ r. ⌜ r ≡ min a b ⌝ }
+{
+    if a < b { a } else { b }
+}
+
+// Word i of a row; 0 past the end.
+fn word(s: &[u64], i: usize) -> u64
+    ensures { λ r. ⌜ r ≡ getD (now (s .entry)) i 0 ⌝ }
+{
+    if i < s.len() { s[i] } else { 0 }
+}
+
+// Column j of a row; false past the end.
+pub fn get_index(s: &[u64], j: usize) -> bool
+    ensures { λ r. ⌜ r ≡ column (now (s .entry)) j ⌝ }
+{
+    (word(s, j / 64) >> (j % 64)) & 1 == 1
+}
+
+// Makes column j of a row `on`; past the end nothing changes.
+pub fn set_index(s: &mut [u64], j: usize, on: bool)
+    ensures { λ _. ⌜ now (s .exit) ≡ put (now (s .entry)) j on ⌝ }
+{
+    let w = j / 64;
+    if w < s.len() {
+        let m = 1u64 << (j % 64);
+        let x = s[w];
+        if on {
+            s[w] = x | m;
+        } else {
+            s[w] = x & !m;
+        }
+    }
+}
+
+// Adds the row src to dst, word by word.
+pub fn xor_assign(dst: &mut [u64], src: &[u64])
+    ensures { λ _. ⌜ now (dst .exit) ≡ xors (now (dst .entry)) (now (src .entry)) ⌝ }
+{
+    let n = least(dst.len(), src.len());
+    let mut i = 0;
+    while i < n {
+        dst[i] = dst[i] ^ src[i];
+        i += 1;
+    }
+}
+
+// Whether the number of common ones is odd.
+pub fn parity_and(a: &[u64], b: &[u64]) -> bool
+    ensures { λ r. ⌜ r ≡ odd (now (a .entry)) (now (b .entry)) ⌝ }
+{
+    let n = least(a.len(), b.len());
+    let mut p: u32 = 0;
+    let mut i = 0;
+    while i < n {
+        p = (p + u64::count_ones(a[i] & b[i])) % 2;
+        i += 1;
+    }
+    p == 1
+}
+
+// The number of common ones, modulo 2^32: of an X part and a Z part, the number of Y columns.
+pub fn and_count_ones(a: &[u64], b: &[u64]) -> u32
+    ensures { λ r. ⌜ r ≡ common (value (now (a .entry))) (value (now (b .entry))) % 2 ^ 32 ⌝ }
+{
+    let n = least(a.len(), b.len());
+    let mut count: u32 = 0;
+    let mut i = 0;
+    while i < n {
+        count = std::num::wrapping_add_u32(count, u64::count_ones(a[i] & b[i]));
+        i += 1;
+    }
+    count
+}
+
+// Makes the first n words zero, or all where there are fewer.
+pub fn clear(s: &mut [u64], n: usize)
+    ensures { λ _. ⌜ now (s .exit) ≡ zeroed n (now (s .entry)) ⌝ }
+{
+    let m = least(n, s.len());
+    let mut i = 0;
+    while i < m {
+        s[i] = 0;
+        i += 1;
+    }
+}
+
+// Copies the words of src over those of dst.
+pub fn copy(dst: &mut [u64], src: &[u64])
+    ensures { λ _. ⌜ now (dst .exit) ≡ copied (now (dst .entry)) (now (src .entry)) ⌝ }
+{
+    let n = least(dst.len(), src.len());
+    let mut i = 0;
+    while i < n {
+        dst[i] = src[i];
+        i += 1;
+    }
+}
+
+// Whether two rows have the same words, and as many.
+pub fn same(a: &[u64], b: &[u64]) -> bool
+    ensures { λ r. ⌜ r ≡ alike (now (a .entry)) (now (b .entry)) ⌝ }
+{
+    if a.len() != b.len() {
+        return false;
+    }
+    let mut i = 0;
+    while i < a.len() {
+        if a[i] != b[i] {
+            return false;
+        }
+        i += 1;
+    }
+    true
+}
+
+// Whether a column at or above q is set.
+pub fn stray(s: &[u64], q: usize) -> bool
+    ensures { λ r. ⌜ r ≡ strays (now (s .entry)) q ⌝ }
+{
+    let w = q / 64;
+    if word(s, w) >> (q % 64) != 0 {
+        return true;
+    }
+    let mut i = w + 1;
+    while i < s.len() {
+        if s[i] != 0 {
+            return true;
+        }
+        i += 1;
+    }
+    false
+}
+
+// Row `term` of a block of rows of `width` words; what of it lies past the end is left out.
+pub fn get_term(x: &[u64], width: usize, term: usize) -> &[u64]
+    ensures { λ r. ⌜ now r ≡ termOf width (now (x .entry)) term ⌝ }
+{
+    let n = x.len();
+    if width == 0 {
+        return &x[n..];
+    }
+    if n / width < term {
+        return &x[n..];
+    }
+    let a = term * width;
+    let e = a + least(width, n - a);
+    &x[a..e]
+}

@@ -1,0 +1,29 @@
+-- The order of refusals: a table of tests, of which the first that holds gives the number.
+use Prim.Native.Nat.{ℕ, zero, suc}
+use mathlib.Core.List.{List, [], _∷_}
+use mathlib.Core.Bool.{Bool, true, false}
+use Rattle.refusal.specs.Numbers.{Paper, bare}
+use Rattle.refusal.specs.Search.{Pair, pair, noPair}
+
+infix 20 _gives_
+infix 20 _names_
+-- `test gives k`: refused by number k if the test holds. `found names k`: refused by number k, with the pair, if a pair was found
+pub data Rule : Type 0 where
+  _gives_ : Bool → ℕ → Rule
+  _names_ : Pair → ℕ → Rule
+
+-- what the first rule that refuses hands back; done if none does
+abbrev pub firstOf : List Rule → Paper
+firstOf [] = bare 0
+firstOf ((true gives k) ∷ rules) = bare k
+firstOf ((false gives k) ∷ rules) = firstOf rules
+firstOf ((pair i j names k) ∷ rules) = record { number = k; first = i; second = j }
+firstOf ((noPair names k) ∷ rules) = firstOf rules
+
+abbrev pub ifZero : {A : Type 0} → ℕ → A → A → A
+ifZero zero new old = new
+ifZero (suc k) new old = old
+
+-- what a lent slice holds at exit: `new` if the call is done, and what it held if it is refused
+abbrev pub onDone : {A : Type 0} → Paper → A → A → A
+onDone p new old = ifZero (p .number) new old
