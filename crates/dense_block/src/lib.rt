@@ -76,10 +76,10 @@ pub fn parity_and(a: &[u64], b: &[u64]) -> bool
 {
     let n = least(a.len(), b.len());
     let mut p: u32 = 0;
-    let mut i = 0;
-    while i < n {
-        p = (p + u64::count_ones(a[i] & b[i])) % 2;
-        i += 1;
+    let mut at = 0;
+    while at < n {
+        p = (p + u64::count_ones(a[at] & b[at])) % 2;
+        at += 1;
     }
     p == 1
 }

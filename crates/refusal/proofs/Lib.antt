@@ -1,3 +1,4 @@
 pub mod Bools
 pub mod Searches
 pub mod Outcome
+pub mod Rooms

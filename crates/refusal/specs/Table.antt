@@ -1,7 +1,8 @@
 -- The order of refusals: a table of tests, of which the first that holds gives the number.
 use Prim.Native.Nat.{ℕ, zero, suc}
 use mathlib.Core.List.{List, [], _∷_}
-use mathlib.Core.Bool.{Bool, true, false}
+use mathlib.Core.Bool.{Bool, true, false, _||_}
+use lib.Dec.{ltb}
 use Rattle.refusal.specs.Numbers.{Paper, bare}
 use Rattle.refusal.specs.Search.{Pair, pair, noPair}
 
@@ -19,6 +20,19 @@ firstOf ((true gives k) ∷ rules) = bare k
 firstOf ((false gives k) ∷ rules) = firstOf rules
 firstOf ((pair i j names k) ∷ rules) = record { number = k; first = i; second = j }
 firstOf ((noPair names k) ∷ rules) = firstOf rules
+
+-- ---- 2: a lent slice is shorter than stated
+
+infix 20 _of_
+-- `need of have`: a slice of length `have`, of which `need` are needed
+pub data Lent : Type 0 where
+  _of_ : ℕ → ℕ → Lent
+
+abbrev pub short : List Lent → Bool
+short [] = false
+short ((need of have) ∷ rest) = ltb have need || short rest
+
+-- ---- what a call leaves
 
 abbrev pub ifZero : {A : Type 0} → ℕ → A → A → A
 ifZero zero new old = new

@@ -14,10 +14,10 @@ use Rattle.dense_block.proofs.parity_and.Statement.{statement}
 use Rattle.dense_block.proofs.parity_and.Tie as tie
 
 abbrev Inv-loop : tie.InvT-loop
-Inv-loop a b n p₀ i₀ p i = (i ≤ n) × (p < 2) × ((p + common (value (drop i a)) (value (drop i b))) % 2 ≡ common (value a) (value b) % 2)
+Inv-loop a b n p₀ at₀ p i = (i ≤ n) × (p < 2) × ((p + common (value (drop i a)) (value (drop i b))) % 2 ≡ common (value a) (value b) % 2)
 
 abbrev μ-loop : tie.MeasureT-loop
-μ-loop a b n p₀ i₀ p i = n - i
+μ-loop a b n p₀ at₀ p i = n - i
 
 least-requires : tie.Need-least-requires Inv-loop μ-loop
 least-requires c κs = search needs
@@ -39,14 +39,14 @@ shared-slice-read-p-2 c = search needs
 
 add-p : tie.Need-add-p Inv-loop μ-loop
 add-p c =
-    let i = c .before .before .before .loop .i in
+    let i = c .before .before .before .loop .at in
     let a = c .before .before .before .before .before .before .before .args in
     let h = and-le-l (getD (a .a .now) i 0) (getD (a .b .now) i 0) in
     let k = c .before .shared-slice-known3 .given i in
     omega (arith, ones-le 64 (bitAnd (getD (a .a .now) i 0) (getD (a .b .now) i 0)) (omega arith))
 
-add-i : tie.Need-add-i Inv-loop μ-loop
-add-i c = search needs
+add-at : tie.Need-add-at Inv-loop μ-loop
+add-at c = search needs
 
 loop-less : tie.Need-loop-less Inv-loop μ-loop
 loop-less c = search needs
@@ -56,14 +56,14 @@ loop-again c =
     let l = c .before .before .before .loop in
     let s = c .before .before .before .before .before in
     let a = s .before .before .args in
-    omega (arith, common-step (a .a .now) (a .b .now) (l .i) (λ i. s .before .shared-slice-known .given i .fits) (λ i. s .shared-slice-known2 .given i .fits))
+    omega (arith, common-step (a .a .now) (a .b .now) (l .at) (λ i. s .before .shared-slice-known .given i .fits) (λ i. s .shared-slice-known2 .given i .fits))
 
 returns : tie.Need-returns Inv-loop μ-loop
 unfolding odd dot
 returns c =
     let l = c .before .loop in
     let a = c .before .before .before .before .before .args in
-    let e : l .p ≡ common (value (a .a .now)) (value (a .b .now)) % 2 = omega (arith, common-end (a .a .now) (a .b .now) (l .i) (omega arith)) in
+    let e : l .p ≡ common (value (a .a .now)) (value (a .b .now)) % 2 = omega (arith, common-end (a .a .now) (a .b .now) (l .at) (omega arith)) in
     ap (λ (x : ℕ). eqb x 1) e
 
 pub parity-and-spec : {M : Type 1} → statement M
@@ -79,7 +79,7 @@ parity-and-spec =
     mul-p-2
     shared-slice-read-p-2
     add-p
-    add-i
+    add-at
     loop-less
     loop-again
     returns)

@@ -26,7 +26,7 @@ returns : tie.Need-returns Inv-loop μ-loop
 returns c =
     let a = c .before .before .before .args in
     strays-here (a .s .now) (a .q) (λ i. c .before .before .shared-slice-known .given i .fits)
-    (λ e. c .if1 .taken (ap (λ (x : ℕ). x / 2 ^ (a .q % 64)) (c .before .word .ensures) ∙ e))
+    (λ e. omega (arith, c .if1 .taken, ap (λ (x : ℕ). x / 2 ^ (a .q % 64)) (c .before .word .ensures)))
 
 add-i : tie.Need-add-i Inv-loop μ-loop
 add-i c = omega arith
@@ -35,7 +35,7 @@ loop-holds : tie.Need-loop-holds Inv-loop μ-loop
 loop-holds c =
     let a = c .before .before .before .args in
     strays-above (a .s .now) (a .q) (λ i. c .before .before .shared-slice-known .given i .fits)
-    (rw (c .before .word .ensures) at (c .if1 .left))
+    (omega (arith, c .if1 .left, ap (λ (x : ℕ). x / 2 ^ (a .q % 64)) (c .before .word .ensures)))
 
 mul-if2 : tie.Need-mul-if2 Inv-loop μ-loop
 mul-if2 c = search needs

@@ -1,0 +1,80 @@
+-- Turns of a coefficient compose as phases add: four quarter turns are none, since negating twice changes nothing, of a NaN too.
+use Prim.Native.Nat.{ℕ, zero, suc, _+_, _-_, _*_, _/_, _%_, _<_}
+use native.Mathlib.Nat.{zero-add, suc-add}
+use native.Mathlib.Omega.{arith}
+use mathlib.Core.Path.{_≡_, refl, sym, ap, _∙_}
+use mathlib.Core.Bool.{Bool, true, false, not}
+use lib.Ieee.{Float, nan, inf, fin, neg, lt}
+use Rattle.pauli.specs.declared.Coefficient.{Coefficient}
+use Rattle.pauli.specs.declared.Marked.{Marked}
+use Rattle.pauli.specs.declared.Marked.the-variants.{Real, Imag}
+use Rattle.pauli.specs.Coefficients.{quarter, turned, marked, isFinite}
+
+not-not : (b : Bool) → not (not b) ≡ b
+not-not true = refl
+not-not false = refl
+
+pub neg-neg : (x : Float) → neg (neg x) ≡ x
+unfolding neg
+neg-neg nan = refl
+neg-neg (inf s) = ap inf (not-not s)
+neg-neg (fin s m e) = ap (λ (t : Bool). fin t m e) (not-not s)
+
+-- three quarter turns, without the double negation
+pub three-turns : (c : Coefficient) → record { re = c .im; im = neg (c .re) } ≡ turned 3 c
+three-turns c = sym back
+  where
+    back : turned 3 c ≡ record { re = c .im; im = neg (c .re) }
+    back = λ i. record { re = neg-neg (c .im) i; im = neg (c .re) }
+
+four-turns : (c : Coefficient) → turned 4 c ≡ c
+four-turns c = λ i. record { re = neg-neg (c .re) i; im = neg-neg (c .im) i }
+
+turned-add : (a b : ℕ) (c : Coefficient) → turned (a + b) c ≡ turned a (turned b c)
+turned-add zero b c = ap (λ (k : ℕ). turned k c) (zero-add b)
+turned-add (suc a) b c = ap (λ (k : ℕ). turned k c) (suc-add a b) ∙ ap quarter (turned-add a b c)
+
+-- whole rounds change nothing
+rounds : (k r : ℕ) (c : Coefficient) → turned (r + 4 * k) c ≡ turned r c
+rounds zero r c = let e : r + 4 * 0 ≡ r = omega arith in ap (λ (n : ℕ). turned n c) e
+rounds (suc k) r c =
+    let e : r + 4 * suc k ≡ (r + 4 * k) + 4 = omega arith in
+    ap (λ (n : ℕ). turned n c) e ∙ turned-add (r + 4 * k) 4 c ∙ ap (turned (r + 4 * k)) (four-turns c) ∙ rounds k r c
+
+pub turned-mod : (k : ℕ) (c : Coefficient) → turned (k % 4) c ≡ turned k c
+turned-mod k c =
+    let e : k % 4 + 4 * (k / 4) ≡ k = omega arith in
+    sym (rounds (k / 4) (k % 4) c) ∙ ap (λ (n : ℕ). turned n c) e
+
+-- turning by the sum of two phases is turning by one after the other
+pub turns-compose : (a b : ℕ) (c : Coefficient) → turned ((a + b) % 4) c ≡ turned a (turned b c)
+turns-compose a b c = turned-mod (a + b) c ∙ turned-add a b c
+
+-- ---- a real coefficient: the same turns, with the mark for the part that is zero
+
+-- a quarter turn takes c to i c, and i c to -c
+abbrev pub marked-quarter : Marked → Marked
+marked-quarter (Real x) = Imag x
+marked-quarter (Imag x) = Real (neg x)
+
+pub marked-turns : (k : ℕ) (x : Float) → k < 4 → marked ((k + 1) % 4) x ≡ marked-quarter (marked k x)
+marked-turns zero x h = refl
+marked-turns (suc zero) x h = refl
+marked-turns (suc (suc zero)) x h = refl
+marked-turns (suc (suc (suc zero))) x h = ap Real (sym (neg-neg x))
+marked-turns (suc (suc (suc (suc k)))) x h = absurd (omega arith)
+
+-- ---- finite numbers lie between the infinities
+
+pub between : (x : Float) → lt x (inf false) ≡ true → lt (inf true) x ≡ isFinite x
+unfolding lt
+between nan h = refl
+between (inf true) h = refl
+between (inf false) h = cc
+between (fin s m e) h = refl
+
+pub beyond : (x : Float) → lt x (inf false) ≡ false → false ≡ isFinite x
+unfolding lt
+beyond nan h = refl
+beyond (inf s) h = refl
+beyond (fin s m e) h = sym h

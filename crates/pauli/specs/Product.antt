@@ -1,0 +1,85 @@
+-- What `multiply` answers and leaves: the product of two rows on q columns, or the first refusal.
+use Prim.Native.Nat.{ℕ}
+use mathlib.Core.List.{List, [], _∷_}
+use mathlib.Core.Bool.{Bool, _||_}
+use lib.Dec.{eqb, ltb}
+use lib.ListN.{length, take}
+use Rattle.refusal.specs.Numbers.{Paper, bare, paper}
+use Rattle.refusal.specs.Table.{_gives_, firstOf, _of_, short, onDone}
+use Rattle.algebra.specs.Rows.{Row, times}
+use Rattle.dense_block.specs.Words.{value, wordsFor, filled, strays}
+use Rattle.pauli.specs.declared.Product.{Product}
+use Rattle.pauli.specs.declared.Product.the-variants.{Done, Refused}
+
+-- a row as it is lent: its phase, and the words of its X and Z parts
+pub record Lent : Type 0 where
+  pub p : ℕ
+  pub xs : List ℕ
+  pub zs : List ℕ
+
+-- what is lent: columns, two rows, and room for the X and Z parts of the product
+pub record Input : Type 0 where
+  pub q : ℕ
+  pub left : Lent
+  pub right : Lent
+  pub out-xs : List ℕ
+  pub out-zs : List ℕ
+
+abbrev pub given : ℕ → ℕ → List ℕ → List ℕ → ℕ → List ℕ → List ℕ → List ℕ → List ℕ → Input
+given q p xs zs p' xs' zs' oxs ozs = record { q = q; left = record { p = p; xs = xs; zs = zs }; right = record { p = p'; xs = xs'; zs = zs' }; out-xs = oxs; out-zs = ozs }
+
+-- of each part the words that q columns take
+abbrev pub trimmed : ℕ → Lent → Lent
+trimmed q r = record { p = r .p; xs = take (wordsFor q) (r .xs); zs = take (wordsFor q) (r .zs) }
+
+abbrev pub rowOf : Lent → Row
+rowOf r = record { p = r .p; x = value (r .xs); z = value (r .zs) }
+
+abbrev pub product : Input → Row
+product i = times (rowOf (trimmed (i .q) (i .left))) (rowOf (trimmed (i .q) (i .right)))
+
+-- ---- refusals
+
+-- columns 0 or above 256
+unfoldable pub badColumns : ℕ → Bool
+badColumns q = eqb q 0 || ltb 256 q
+
+-- phase above 3, stray high bit
+unfoldable pub badRow : ℕ → Lent → Bool
+badRow q r = ltb 3 (r .p) || (strays (r .xs) q || strays (r .zs) q)
+
+unfoldable pub tooShort : Input → Bool
+tooShort i =
+    short (
+    (wordsFor (i .q) of length (i .left .xs)) ∷ (wordsFor (i .q) of length (i .left .zs))
+    ∷ (wordsFor (i .q) of length (i .right .xs)) ∷ (wordsFor (i .q) of length (i .right .zs))
+    ∷ (wordsFor (i .q) of length (i .out-xs)) ∷ (wordsFor (i .q) of length (i .out-zs)) ∷ [])
+
+-- the order of the refusals
+unfoldable pub refused : Input → Paper
+refused i =
+    firstOf (
+    (badColumns (i .q) gives 1)
+    ∷ (tooShort i gives 2)
+    ∷ (badRow (i .q) (trimmed (i .q) (i .left)) || badRow (i .q) (trimmed (i .q) (i .right)) gives 17)
+    ∷ [])
+
+-- ---- the answer
+
+-- a number, its pair, and the phase of the product; other numbers in a refused answer are 0
+pub record Told : Type 0 where
+  pub told : Paper
+  pub phase : ℕ
+
+abbrev pub productPaper : Product → Told
+productPaper (Done f) = record { told = bare 0; phase = f .power }
+productPaper (Refused r) = record { told = paper r; phase = 0 }
+
+unfoldable pub multiplied : Input → Told
+multiplied i = record { told = refused i; phase = onDone (refused i) (product i .p) 0 }
+
+unfoldable pub productX : Input → List ℕ
+productX i = onDone (refused i) (filled (wordsFor (i .q)) (product i .x) (i .out-xs)) (i .out-xs)
+
+unfoldable pub productZ : Input → List ℕ
+productZ i = onDone (refused i) (filled (wordsFor (i .q)) (product i .z) (i .out-zs)) (i .out-zs)
