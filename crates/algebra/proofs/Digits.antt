@@ -3,7 +3,7 @@ use Prim.Native.Nat.{ℕ, zero, suc, _+_, _-_, _*_, _/_, _%_, _^_, _≤_, _<_, m
 use native.Mathlib.Nat.{mod-lt, mod-self, div-one, div-div-eq-div-mul, div-eq-of-lt, lt-of-lt-of-le, one-mul, add-assoc, mod-add-mod, add-mod-mod}
 use native.Mathlib.Decide.{decLt}
 use native.Mathlib.Omega.{arith}
-use mathlib.Core.Path.{_≡_, refl, sym, ap, ap₂, _∙_}
+use mathlib.Core.Path.{_≡_, refl, sym, ap, _∙_}
 use mathlib.Core.Logic.{_⊎_, inl, inr, _≢_}
 use lib.Arith.{bin-ind}
 use lib.Pow.{pow-add, pow-pos, pow-mono, pow-lt, split, shl-shr, shr-lt, field, mod-mod-pow}

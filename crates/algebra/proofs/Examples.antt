@@ -1,5 +1,4 @@
 -- Small cases of the algebra, by computing: the letters X, Y and Z on one column.
-use Prim.Native.Nat.{ℕ}
 use mathlib.Core.Path.{_≡_, refl}
 use lib.Count.{ones, onesIn}
 use Rattle.algebra.specs.Rows.{common, Row, state, phase, times, identity, clash}

@@ -1,14 +1,14 @@
 -- Laws of rows: the product acts as its factors one after the other, it is associative with the identity neutral, and its two orders differ by a sign exactly if
 -- the rows anticommute. By the laws of the dot product; a doubled count is known by its parity.
-use Prim.Native.Nat.{ℕ, zero, suc, _+_, _*_, _%_, _^_, _<_}
-use native.Mathlib.Nat.{add-comm, mod-add-mod, add-mod-mod, mod-eq-of-lt}
+use Prim.Native.Nat.{ℕ, _+_, _*_, _%_, _^_, _<_}
+use native.Mathlib.Nat.{add-comm, mod-add-mod, add-mod-mod}
 use native.Mathlib.Omega.{arith}
-use mathlib.Core.Path.{_≡_, ap, sym, _∙_}
+use mathlib.Core.Path.{_≡_, ap, sym}
 use mathlib.Core.Logic.{_↔_, _≢_, _⊎_, inl, inr}
 use lib.Bits.{xor-comm, xor-zero-l, xor-zero-r, xor-lt}
 use Rattle.algebra.specs.Rows.{common, dot, Row, state, phase, times, identity, clash, Anticommute}
 use Rattle.algebra.proofs.Digits.{zero-or-one, xor-assoc}
-use Rattle.algebra.proofs.Dots.{common-comm, common-zero-r, twice-dot, dot-lt, dot-comm, dot-xor-l, dot-xor-r}
+use Rattle.algebra.proofs.Dots.{common-comm, common-zero-r, twice-dot, dot-xor-l, dot-xor-r}
 
 -- ---- the product acts as the composition
 

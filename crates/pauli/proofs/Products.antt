@@ -1,19 +1,17 @@
 -- The answer of `multiply`: which test refuses, and what the words written stand for. One outcome for each input.
-use Prim.Native.Nat.{ℕ, zero, suc, _+_, _*_, _%_, _^_, _≤_, _<_}
+use Prim.Native.Nat.{ℕ, zero, suc, _+_, _*_, _%_, _≤_, _<_}
 use native.Mathlib.Omega.{arith}
 use mathlib.Core.Path.{_≡_, refl, sym, ap, _∙_}
-use mathlib.Core.List.{List, [], _∷_, _++_}
+use mathlib.Core.List.{List, _++_}
 use mathlib.Core.Bool.{Bool, true, false, _||_}
-use lib.Dec.{eqb, ltb}
+use lib.Dec.{eqb}
 use lib.ListN.{length, take, drop}
 use lib.Seq.{length-take-le}
 use lib.Bits.{bitXor}
-use Rattle.refusal.specs.declared.Refusal.{Refusal}
 use Rattle.refusal.specs.declared.Refusal.the-variants.{Size, Short, Value}
-use Rattle.refusal.specs.Numbers.{Paper, paper}
+use Rattle.refusal.specs.Numbers.{Paper}
 use Rattle.refusal.proofs.Outcome.{one-outcome, paper-injective, refused-number}
-use Rattle.algebra.specs.Rows.{common, dot, times}
-use Rattle.algebra.proofs.Digits.{zero-or-one}
+use Rattle.algebra.specs.Rows.{common, dot}
 use Rattle.algebra.proofs.Dots.{dot-lt, twice-dot}
 use Rattle.dense_block.specs.Words.{value, wordsFor, filled, digit, odd, xors}
 use Rattle.dense_block.proofs.Values.{Words, words-take, filled-by}
@@ -21,7 +19,7 @@ use Rattle.dense_block.proofs.Alongs.{length-along, words-xors, value-xors}
 use Rattle.pauli.specs.declared.Phase.{Phase}
 use Rattle.pauli.specs.declared.Product.{Product}
 use Rattle.pauli.specs.declared.Product.the-variants.{Done, Refused}
-use Rattle.pauli.specs.Product.{Lent, Input, trimmed, rowOf, product, badColumns, badRow, tooShort, refused, Told, productPaper, multiplied, productX, productZ}
+use Rattle.pauli.specs.Product.{Input, trimmed, product, badColumns, badRow, tooShort, refused, Told, productPaper, multiplied, productX, productZ}
 
 -- what the contract of `multiply` says of its answer and of the two slices
 abbrev pub Meets : Input → Product → List ℕ → List ℕ → Type 0

@@ -1,6 +1,6 @@
 -- Coefficients turned by a power of i: parts are moved and negated, and never rounded.
-use Prim.Native.Nat.{ℕ, zero, suc, _%_}
-use mathlib.Core.Bool.{Bool, true, false, _&&_}
+use Prim.Native.Nat.{ℕ, zero, suc}
+use mathlib.Core.Bool.{Bool, true, false}
 use lib.Ieee.{Float, nan, inf, fin, neg}
 use Rattle.pauli.specs.declared.Coefficient.{Coefficient}
 use Rattle.pauli.specs.declared.Marked.{Marked}

@@ -5,9 +5,9 @@ use native.Mathlib.Omega.{arith}
 use mathlib.Core.Path.{_≡_, refl, sym, ap, _∙_}
 use mathlib.Core.Logic.{_⊎_, inl, inr}
 use mathlib.Core.Bool.{Bool, true, false, cond, _&&_, _||_}
-use borrow.Author.Tests.{lt-ltb, le-ltb, ltb-true}
+use borrow.Author.Tests.{lt-ltb, ltb-true}
 use lib.Dec.{ltb}
-use Rattle.refusal.specs.Search.{someBelow, allBelow, Least, found, none, orElse, leastBelow, Pair, pair, noPair, withFirst, firstPair}
+use Rattle.refusal.specs.Search.{someBelow, allBelow, found, none, orElse, leastBelow, Pair, pair, noPair, firstPair}
 use Rattle.refusal.proofs.Bools.{and-left, and-right, both, never}
 
 -- ---- some number passes

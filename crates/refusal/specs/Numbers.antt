@@ -1,4 +1,4 @@
--- The number of each refusal, and the pair that 10 carries: document 01, "Numbers handed back".
+-- The number of each refusal, and the pair that 10 carries: the table of the numbers handed back.
 use Prim.Native.Nat.{ℕ}
 use Rattle.refusal.specs.declared.Refusal.{Refusal}
 use Rattle.refusal.specs.declared.Refusal.the-variants.{Size, Short, Qubits, Child, SelfChild, SecondParent, SecondEntry, Roots, Leaf, Commuting, Dependent, NoVacuum, Vacuum, Undecodable, Unencodable, Malformed, Value, OddModes}

@@ -1,5 +1,5 @@
 -- `pauli::bad_row` meets its contract: test by test.
-use mathlib.Core.Path.{_≡_, sym, _∙_}
+use mathlib.Core.Path.{sym, _∙_}
 use borrow.Author.Tests.{lt-ltb, le-ltb}
 use Rattle.pauli.specs.Product.{badRow}
 use borrow.Author.Needs.{needs}

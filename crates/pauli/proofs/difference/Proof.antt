@@ -1,5 +1,4 @@
 -- `pauli::difference` meets its contract: both numbers are small, so the machine's difference is theirs.
-use Prim.Native.Nat.{ℕ}
 use native.Mathlib.Omega.{arith}
 use mathlib.Core.Path.{_≡_, sym, subst, _∙_, ap₂}
 use lib.IntN.{ℤ, pos, _-ℤ_}

@@ -1,5 +1,5 @@
 -- `Coefficient::turn` meets its contract: each of the four powers is that many quarter turns.
-use Prim.Native.Nat.{ℕ, _%_}
+use Prim.Native.Nat.{_%_}
 use native.Mathlib.Omega.{arith}
 use mathlib.Core.Path.{_≡_}
 use Rattle.pauli.proofs.Turns.{three-turns}

@@ -1,5 +1,5 @@
 -- `Marked::turn` meets its contract: a case for each of the four powers.
-use Prim.Native.Nat.{ℕ, _%_}
+use Prim.Native.Nat.{_%_}
 use native.Mathlib.Omega.{arith}
 use mathlib.Core.Path.{_≡_}
 use Rattle.pauli.proofs.Marked.turn.Statement.{statement}

@@ -1,11 +1,10 @@
 -- `Phase::letter_power` meets its contract: the remainder of the difference, made never negative.
-use Prim.Native.Nat.{ℕ, _<_}
-use native.Mathlib.Omega.{arith}
+use Prim.Native.Nat.{_<_}
 use mathlib.Core.Path.{_≡_, subst, sym, ap, _∙_}
 use lib.IntN.{ℤ, pos, _-ℤ_}
 use lib.Signed.{mag, remZ}
 use mir.Syntax.{w32}
-use mir.Val.{toZ, ofZ, SFits}
+use mir.Val.{toZ, ofZ}
 use mir.ValLaws.{toZ-ofZ}
 use Rattle.pauli.specs.Phases.{modFour, letterPower}
 use Rattle.pauli.proofs.Signed.{mag-remainder, same-remainder}
