@@ -29,7 +29,7 @@ state r s = bitXor s (r .x)
 abbrev pub phase : Row → ℕ → ℕ
 phase r s = (r .p + 2 * common (r .z) s) % 4
 
--- the product of r and then s
+-- the product r s, of r and then s as they are written: on a state, s acts first
 abbrev pub times : Row → Row → Row
 times r s = record {
   p = (r .p + s .p + 2 * common (r .z) (s .x)) % 4;

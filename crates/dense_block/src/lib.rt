@@ -1,4 +1,5 @@
-// Bit rows packed into words: column j is bit j mod 64 of word j / 64. Every function is total, and over two rows it goes as far as the shorter, as `zip` does.
+// Bit rows packed into words: column j is bit j mod 64 of word j / 64. Every function is total. One that goes along two rows goes as far as the shorter, as `zip`
+// does; `same` is false of rows of different lengths.
 //
 //   words_for                       how many words a row takes
 //   get_index, set_index            one column

@@ -19,11 +19,7 @@ use Rattle.dense_block.proofs.Alongs.{length-along, words-xors, value-xors}
 use Rattle.pauli.specs.declared.Phase.{Phase}
 use Rattle.pauli.specs.declared.Product.{Product}
 use Rattle.pauli.specs.declared.Product.the-variants.{Done, Refused}
-use Rattle.pauli.specs.Product.{Input, trimmed, product, badColumns, badRow, tooShort, refused, Told, productPaper, multiplied, productX, productZ}
-
--- what the contract of `multiply` says of its answer and of the two slices
-abbrev pub Meets : Input → Product → List ℕ → List ℕ → Type 0
-Meets i r xs zs = (productPaper r ≡ multiplied i) × ((xs ≡ productX i) × (zs ≡ productZ i))
+use Rattle.pauli.specs.Product.{Input, trimmed, product, badColumns, badRow, tooShort, refused, Told, productPaper, multiplied, productX, productZ, Multiplied}
 
 abbrev pub valueTest : Input → Bool
 valueTest i = badRow (i .q) (trimmed (i .q) (i .left)) || badRow (i .q) (trimmed (i .q) (i .right))
@@ -31,23 +27,23 @@ valueTest i = badRow (i .q) (trimmed (i .q) (i .left)) || badRow (i .q) (trimmed
 -- ---- which test refuses
 
 module _ (i : Input) where
-  pub by-columns : badColumns (i .q) ≡ true → Meets i (Refused Size) (i .out-xs) (i .out-zs)
+  pub by-columns : badColumns (i .q) ≡ true → Multiplied i (Refused Size) (i .out-xs) (i .out-zs)
   unfolding multiplied productX productZ refused
-  by-columns h = (rw h, (rw h, rw h))
+  by-columns h = record { answer = rw h; x-part = rw h; z-part = rw h }
 
-  pub by-short : badColumns (i .q) ≡ false → tooShort i ≡ true → Meets i (Refused Short) (i .out-xs) (i .out-zs)
+  pub by-short : badColumns (i .q) ≡ false → tooShort i ≡ true → Multiplied i (Refused Short) (i .out-xs) (i .out-zs)
   unfolding multiplied productX productZ refused
-  by-short h k = (rw (h, k), (rw (h, k), rw (h, k)))
+  by-short h k = record { answer = rw (h, k); x-part = rw (h, k); z-part = rw (h, k) }
 
-  pub by-value : badColumns (i .q) ≡ false → tooShort i ≡ false → valueTest i ≡ true → Meets i (Refused Value) (i .out-xs) (i .out-zs)
+  pub by-value : badColumns (i .q) ≡ false → tooShort i ≡ false → valueTest i ≡ true → Multiplied i (Refused Value) (i .out-xs) (i .out-zs)
   unfolding multiplied productX productZ refused
-  by-value h k l = (rw (h, k, l), (rw (h, k, l), rw (h, k, l)))
+  by-value h k l = record { answer = rw (h, k, l); x-part = rw (h, k, l); z-part = rw (h, k, l) }
 
   pub by-none : badColumns (i .q) ≡ false → tooShort i ≡ false → valueTest i ≡ false → (f : Phase) (xs zs : List ℕ)
       → f .power ≡ product i .p → xs ≡ filled (wordsFor (i .q)) (product i .x) (i .out-xs) → zs ≡ filled (wordsFor (i .q)) (product i .z) (i .out-zs)
-      → Meets i (Done f) xs zs
+      → Multiplied i (Done f) xs zs
   unfolding multiplied productX productZ refused
-  by-none h k l f xs zs p x z = (rw (h, k, l, p), (rw (h, k, l) x, rw (h, k, l) z))
+  by-none h k l f xs zs p x z = record { answer = rw (h, k, l, p); x-part = rw (h, k, l) x; z-part = rw (h, k, l) z }
 
 -- ---- what the words stand for
 
@@ -83,6 +79,6 @@ product-injective (Done f) (Refused s) e = absurd (refused-number s (sym (ap (λ
 product-injective (Refused r) (Done g) e = absurd (refused-number r (ap (λ (p : Paper). p .number) (told-same e .0)))
 product-injective (Refused r) (Refused s) e = ap Refused (paper-injective (told-same e .0))
 
-pub multiply-outcome : (i : Input) (r s : Product) (xs xs' zs zs' : List ℕ) → Meets i r xs zs → Meets i s xs' zs' → (r ≡ s) × ((xs ≡ xs') × (zs ≡ zs'))
+pub multiply-outcome : (i : Input) (r s : Product) (xs xs' zs zs' : List ℕ) → Multiplied i r xs zs → Multiplied i s xs' zs' → (r ≡ s) × ((xs ≡ xs') × (zs ≡ zs'))
 multiply-outcome i r s xs xs' zs zs' m n =
-    (product-injective r s (one-outcome (m .0) (n .0)), (one-outcome (m .1 .0) (n .1 .0), one-outcome (m .1 .1) (n .1 .1)))
+    (product-injective r s (one-outcome (m .answer) (n .answer)), (one-outcome (m .x-part) (n .x-part), one-outcome (m .z-part) (n .z-part)))

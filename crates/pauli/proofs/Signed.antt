@@ -79,3 +79,14 @@ letter-power-back p (suc ys) = go (ltb p (suc ys)) refl
     go : (t : Bool) → ltb p (suc ys) ≡ t → (modFour (cond t (negsuc (suc ys - suc p)) (pos (p - suc ys))) + suc ys) % 4 ≡ p % 4
     go true e = omega (arith, ltb-true p (suc ys) e)
     go false e = omega (arith, ltb-false p (suc ys) e)
+
+letter-power-lt : (p ys : ℕ) → letterPower p ys < 4
+unfolding letterPower
+letter-power-lt p ys = mod-four-lt (pos p -ℤ pos ys)
+
+-- it sees the count modulo 4 only
+pub letter-power-mod : (p a b : ℕ) → a % 4 ≡ b % 4 → letterPower p a ≡ letterPower p b
+letter-power-mod p a b h = settled (letterPower p a) (letterPower p b) (a % 4) (p % 4) (omega (arith, letter-power-back p a)) (omega (arith, letter-power-back p b)) (letter-power-lt p a) (letter-power-lt p b) (omega arith)
+  where
+    settled : (u v k q : ℕ) → (u + k) % 4 ≡ q → (v + k) % 4 ≡ q → u < 4 → v < 4 → k < 4 → u ≡ v
+    settled u v k q g h i j l = omega arith

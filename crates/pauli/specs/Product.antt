@@ -1,5 +1,6 @@
 -- What `multiply` answers and leaves: the product of two rows on q columns, or the first refusal.
 use Prim.Native.Nat.{ℕ}
+use mathlib.Core.Path.{_≡_}
 use mathlib.Core.List.{List, [], _∷_}
 use mathlib.Core.Bool.{Bool, _||_}
 use lib.Dec.{eqb, ltb}
@@ -12,7 +13,7 @@ use Rattle.pauli.specs.declared.Product.{Product}
 use Rattle.pauli.specs.declared.Product.the-variants.{Done, Refused}
 
 -- a row as it is lent: its phase, and the words of its X and Z parts
-pub record Lent : Type 0 where
+pub record LentRow : Type 0 where
   pub p : ℕ
   pub xs : List ℕ
   pub zs : List ℕ
@@ -20,8 +21,8 @@ pub record Lent : Type 0 where
 -- what is lent: columns, two rows, and room for the X and Z parts of the product
 pub record Input : Type 0 where
   pub q : ℕ
-  pub left : Lent
-  pub right : Lent
+  pub left : LentRow
+  pub right : LentRow
   pub out-xs : List ℕ
   pub out-zs : List ℕ
 
@@ -29,10 +30,10 @@ abbrev pub given : ℕ → ℕ → List ℕ → List ℕ → ℕ → List ℕ �
 given q p xs zs p' xs' zs' oxs ozs = record { q = q; left = record { p = p; xs = xs; zs = zs }; right = record { p = p'; xs = xs'; zs = zs' }; out-xs = oxs; out-zs = ozs }
 
 -- of each part the words that q columns take
-abbrev pub trimmed : ℕ → Lent → Lent
+abbrev pub trimmed : ℕ → LentRow → LentRow
 trimmed q r = record { p = r .p; xs = take (wordsFor q) (r .xs); zs = take (wordsFor q) (r .zs) }
 
-abbrev pub rowOf : Lent → Row
+abbrev pub rowOf : LentRow → Row
 rowOf r = record { p = r .p; x = value (r .xs); z = value (r .zs) }
 
 abbrev pub product : Input → Row
@@ -45,7 +46,7 @@ unfoldable pub badColumns : ℕ → Bool
 badColumns q = eqb q 0 || ltb 256 q
 
 -- phase above 3, stray high bit
-unfoldable pub badRow : ℕ → Lent → Bool
+unfoldable pub badRow : ℕ → LentRow → Bool
 badRow q r = ltb 3 (r .p) || (strays (r .xs) q || strays (r .zs) q)
 
 unfoldable pub tooShort : Input → Bool
@@ -83,3 +84,9 @@ productX i = onDone (refused i) (filled (wordsFor (i .q)) (product i .x) (i .out
 
 unfoldable pub productZ : Input → List ℕ
 productZ i = onDone (refused i) (filled (wordsFor (i .q)) (product i .z) (i .out-zs)) (i .out-zs)
+
+-- what `multiply` promises of its answer r, and of the two parts at exit
+pub record Multiplied (i : Input) (r : Product) (xs zs : List ℕ) : Type 0 where
+  pub answer : productPaper r ≡ multiplied i
+  pub x-part : xs ≡ productX i
+  pub z-part : zs ≡ productZ i

@@ -1,8 +1,9 @@
-// Phases, coefficients and one row at a time.
+// Phases, coefficients, and the product of two rows.
 //
-//   Phase           a power of i: add, double_parity, letter_power
+//   Phase           a power of i: add, double_parity, less
 //   Coefficient     two f64 parts: turn by a power of i, is_finite
 //   Marked          a real or an imaginary number: what a power of i makes of a real one
+//   letter_power    the letter power of a row
 //   multiply        the product of two rows
 use refusal::Refusal;
 ghost use mathlib.Core.Path.{_≡_};
@@ -15,17 +16,17 @@ ghost use lib.Signed.{mag, remZ};
 ghost use Rattle.dense_block.specs.Words.{digit};
 ghost use Rattle.pauli.specs.Coefficients.{turned, marked, isFinite};
 ghost use lib.ListN.{length, take};
-ghost use Rattle.dense_block.specs.Words.{odd, xors};
-ghost use Rattle.pauli.specs.Product.{given, badColumns, badRow, productPaper, multiplied, productX, productZ};
-ghost use Rattle.pauli.specs.Phases.{modFour, letterPower};
+ghost use Rattle.dense_block.specs.Words.{odd, value, xors};
+ghost use Rattle.pauli.specs.Product.{given, badColumns, badRow, Multiplied};
+ghost use Rattle.pauli.specs.Phases.{modFour, letterPower, rowPower};
 
-// i to a power, counted modulo 4.
+// i to a power. The methods count powers modulo 4; a row's phase above 3 is refused by the calls that take rows.
 pub struct Phase {
     pub power: u8,
 }
 
 impl Phase {
-    // The phase of a product: powers add.
+    // The two powers of i multiplied.
     pub fn add(self, other: Phase) -> Phase
         ensures { λ r. ⌜ r .power ≡ (self .power + other .power) % 4 ⌝ }
     {
@@ -49,14 +50,21 @@ impl Phase {
         }
     }
 
-    // The letter power: p minus the number of Y columns, modulo 4.
-    pub fn letter_power(self, ys: u16) -> Phase
+    // p minus a number of Y columns, modulo 4.
+    pub fn less(self, ys: u16) -> Phase
         ensures { λ r. ⌜ r .power ≡ letterPower (self .power) ys ⌝ }
     {
         Phase {
             power: never_negative(remainder(difference(self.power, ys))),
         }
     }
+}
+
+// The letter power of the row i^p X^x Z^z: p minus its number of Y columns, modulo 4.
+pub fn letter_power(p: Phase, x: &[u64], z: &[u64]) -> Phase
+    ensures { λ r. ⌜ r .power ≡ rowPower (record { p = p .power; x = value (now (x .entry)); z = value (now (z .entry)) }) ⌝ }
+{
+    p.less((dense_block::and_count_ones(x, z) % 65536) as u16)
 }
 
 // p minus a number of columns, signed: as low as -256 for a row of 256 columns.
@@ -170,7 +178,7 @@ fn bad_columns(columns: usize) -> bool
     256 < columns
 }
 
-// Whether a row's phase is above 3, or one of its parts has a bit at or above the last column.
+// Whether a row's phase is above 3, or one of its parts has a bit past the last column.
 fn bad_row(columns: usize, p: Phase, x: &[u64], z: &[u64]) -> bool
     ensures { λ r. ⌜ r ≡ badRow columns (record { p = p .power; xs = now (x .entry); zs = now (z .entry) }) ⌝ }
 {
@@ -205,7 +213,7 @@ fn any_short(need: usize, a: usize, b: usize, c: usize, d: usize, e: usize, f: u
     f < need
 }
 
-// The sum of two rows as long as `out`.
+// The sum of a row as long as `out` and another, in `out`.
 fn sum_into(out: &mut [u64], a: &[u64], b: &[u64])
     requires { ⌜ length (now a) ≡ length (now out) ⌝ }
     ensures { λ _. ⌜ now (out .exit) ≡ xors (now (a .entry)) (now (b .entry)) ⌝ }
@@ -214,7 +222,7 @@ fn sum_into(out: &mut [u64], a: &[u64], b: &[u64])
     dense_block::xor_assign(out, b);
 }
 
-// The product of two rows whose parts have as many words as ox and oz.
+// The product of two rows. The left row's parts have as many words as ox and oz; the right row's may be shorter.
 fn multiply_words(
     left: Phase,
     lx: &[u64],
@@ -249,9 +257,7 @@ pub fn multiply(
     ox: &mut [u64],
     oz: &mut [u64],
 ) -> Product
-    ensures answer { λ r. ⌜ productPaper r ≡ multiplied (given columns (left .power) (now (lx .entry)) (now (lz .entry)) (right .power) (now (rx .entry)) (now (rz .entry)) (now (ox .entry)) (now (oz .entry))) ⌝ }
-    ensures x_part { λ _. ⌜ now (ox .exit) ≡ productX (given columns (left .power) (now (lx .entry)) (now (lz .entry)) (right .power) (now (rx .entry)) (now (rz .entry)) (now (ox .entry)) (now (oz .entry))) ⌝ }
-    ensures z_part { λ _. ⌜ now (oz .exit) ≡ productZ (given columns (left .power) (now (lx .entry)) (now (lz .entry)) (right .power) (now (rx .entry)) (now (rz .entry)) (now (ox .entry)) (now (oz .entry))) ⌝ }
+    ensures { λ r. ⌜ Multiplied (given columns (left .power) (now (lx .entry)) (now (lz .entry)) (right .power) (now (rx .entry)) (now (rz .entry)) (now (ox .entry)) (now (oz .entry))) r (now (ox .exit)) (now (oz .exit)) ⌝ }
 {
     if bad_columns(columns) {
         return Product::Refused(Refusal::Size);

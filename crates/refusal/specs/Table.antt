@@ -1,8 +1,8 @@
 -- The order of refusals: a table of tests, of which the first that holds gives the number.
 use Prim.Native.Nat.{ℕ, zero, suc}
 use mathlib.Core.List.{List, [], _∷_}
-use mathlib.Core.Bool.{Bool, true, false, _||_}
-use lib.Dec.{ltb}
+use mathlib.Core.Bool.{Bool, true, false, cond, _||_}
+use lib.Dec.{eqb, ltb}
 use Rattle.refusal.specs.Numbers.{Paper, bare}
 use Rattle.refusal.specs.Search.{Pair, pair, noPair}
 
@@ -38,6 +38,10 @@ abbrev pub ifZero : {A : Type 0} → ℕ → A → A → A
 ifZero zero new old = new
 ifZero (suc k) new old = old
 
--- what a lent slice holds at exit: `new` if the call is done, and what it held if it is refused
+-- an output: `new` if the call is done, and what it held if it is refused
 abbrev pub onDone : {A : Type 0} → Paper → A → A → A
 onDone p new old = ifZero (p .number) new old
+
+-- work room: `cleared` after a call that got past 1 and 2, and what it held otherwise
+abbrev pub pastTwo : {A : Type 0} → Paper → A → A → A
+pastTwo p cleared old = cond (eqb (p .number) 1 || eqb (p .number) 2) old cleared

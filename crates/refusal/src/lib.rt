@@ -1,10 +1,10 @@
-// The numbers that every call hands back, as an enum with a case for each refusal.
+// The numbers that the calls hand back, as an enum with a case for each refusal.
 //
 //   Refusal   why a call refused: a case for each number, 10 with its pair; `number` hands the number back
-//   Answer    done, or refused: the answer of every call that hands back nothing more
+//   Answer    done, or refused: the answer of every call that hands back nothing more; `number` is 0 for done
 
 ghost use mathlib.Core.Path.{_≡_};
-ghost use Rattle.refusal.specs.Numbers.{paper};
+ghost use Rattle.refusal.specs.Numbers.{paper, answered};
 
 // A case's number is the one that stands above it.
 pub enum Refusal {
@@ -74,6 +74,17 @@ impl Refusal {
             Refusal::Malformed => 16,
             Refusal::Value => 17,
             Refusal::OddModes => 18,
+        }
+    }
+}
+
+impl Answer {
+    pub fn number(self) -> u8
+        ensures { λ r. ⌜ r ≡ answered self .number ⌝ }
+    {
+        match self {
+            Answer::Done => 0,
+            Answer::Refused(why) => why.number(),
         }
     }
 }

@@ -1,18 +1,19 @@
 -- `pauli::multiply` meets its contract: the tests in their order, and then the product of the words that the columns take.
 -- ---- after the tests of the columns and of the lengths
 -- ---- after the tests of the two rows
-use Prim.Native.Nat.{ℕ, _+_, _*_, _%_}
+use Prim.Native.Nat.{ℕ, _+_, _*_, _%_, _≤_}
+use native.Mathlib.Omega.{arith}
 use mathlib.Core.Path.{_≡_, sym, ap, _∙_}
-use mathlib.Core.Bool.{false}
+use mathlib.Core.Bool.{Bool, true, false, _||_}
 use mathlib.Core.List.{List, [], _∷_, _++_}
 use lib.ListN.{length, take, drop}
 use lib.Seq.{length-take-le}
-use Rattle.refusal.specs.Table.{Lent, _of_}
+use Rattle.refusal.specs.Table.{Lent, _of_, short}
 use Rattle.refusal.proofs.Rooms.{Hold, hold}
 use lib.Bits.{bitXor}
 use Rattle.algebra.specs.Rows.{common}
 use Rattle.dense_block.specs.Words.{value, filled}
-use Rattle.pauli.specs.Product.{Input, given, badColumns, tooShort}
+use Rattle.pauli.specs.Product.{Input, given, trimmed, badColumns, badRow, tooShort}
 use Rattle.pauli.proofs.Products.{by-columns, by-short, by-value, by-none, valueTest, sum-filled, sign-of}
 use borrow.Author.Needs.{needs}
 use Rattle.pauli.proofs.multiply.Statement.{statement}

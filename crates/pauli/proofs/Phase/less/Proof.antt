@@ -1,16 +1,17 @@
--- `Phase::letter_power` meets its contract: the remainder of the difference, made never negative.
-use Prim.Native.Nat.{_<_}
+-- `Phase::less` meets its contract: the remainder of the difference, made never negative.
+use Prim.Native.Nat.{ℕ, _<_}
+use native.Mathlib.Omega.{arith}
 use mathlib.Core.Path.{_≡_, subst, sym, ap, _∙_}
 use lib.IntN.{ℤ, pos, _-ℤ_}
 use lib.Signed.{mag, remZ}
 use mir.Syntax.{w32}
-use mir.Val.{toZ, ofZ}
+use mir.Val.{toZ, ofZ, SFits}
 use mir.ValLaws.{toZ-ofZ}
 use Rattle.pauli.specs.Phases.{modFour, letterPower}
 use Rattle.pauli.proofs.Signed.{mag-remainder, same-remainder}
 use borrow.Author.Needs.{needs}
-use Rattle.pauli.proofs.Phase.letter_power.Statement.{statement}
-use Rattle.pauli.proofs.Phase.letter_power.Tie as tie
+use Rattle.pauli.proofs.Phase.less.Statement.{statement}
+use Rattle.pauli.proofs.Phase.less.Tie as tie
 
 -- the machine reads back what it stored
 difference-back : (c : tie.After-difference) → toZ w32 (ofZ w32 (c .difference .result)) ≡ pos (c .before .args .self .power) -ℤ pos (c .before .args .ys)
@@ -32,6 +33,6 @@ returns : tie.Need-returns
 unfolding letterPower
 returns c = c .never-negative .ensures ∙ ap modFour (remainder-back (c .before)) ∙ same-remainder (pos (c .before .before .before .args .self .power) -ℤ pos (c .before .before .before .args .ys))
 
-pub letter-power-spec : {M : Type 1} → statement M
-letter-power-spec =
+pub less-spec : {M : Type 1} → statement M
+less-spec =
     tie.close (tie.spec difference-requires remainder-requires never-negative-requires returns)
