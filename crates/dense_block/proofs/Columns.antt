@@ -100,7 +100,7 @@ put-other x k j on n = rw (put-parts x k on) (go (decLt j k) ∙ ap (λ (y : ℕ
 -- ---- one word, as the code does it
 
 -- `1 << k` in 64 bits
-one-shl : (k : ℕ) → k < 64 → (1 * 2 ^ k) % 2 ^ 64 ≡ 2 ^ k
+pub one-shl : (k : ℕ) → k < 64 → (1 * 2 ^ k) % 2 ^ 64 ≡ 2 ^ k
 one-shl k h = shl-exact 1 k 64 (lit< tt) (omega arith) ∙ one-mul (2 ^ k)
 
 put-on : (x k : ℕ) → bitOr x (2 ^ k) ≡ putBit x k true

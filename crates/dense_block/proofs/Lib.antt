@@ -6,3 +6,4 @@ pub mod Clears
 pub mod Alikes
 pub mod Strays
 pub mod Terms
+pub mod Blocks

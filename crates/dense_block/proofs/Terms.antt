@@ -3,11 +3,11 @@ use Prim.Native.Nat.{ℕ, _+_, _-_, _*_, _/_, _≤_, _<_, min}
 use native.Mathlib.Nat.{min-eq-left, min-eq-right, mul-le-mul-right, add-mul, one-mul, le-of-lt, le-div-iff-mul-le, div-lt-iff-lt-mul}
 use native.Mathlib.Decide.{decLe}
 use native.Mathlib.Omega.{arith}
-use mathlib.Core.Path.{_≡_, sym, _∙_}
-use mathlib.Core.List.{List, []}
-use lib.ListN.{length, take, drop, length-take, length-drop, drop-of-length-le}
-use lib.Seq.{take-nil, take-all, take-length, drop-length}
-use Rattle.dense_block.specs.Words.{termOf}
+use mathlib.Core.Path.{_≡_, sym, ap, _∙_}
+use mathlib.Core.List.{List, [], _++_}
+use lib.ListN.{length, take, drop, length-append, length-take, length-drop, take-append-drop, drop-of-length-le}
+use lib.Seq.{length-take-le, take-nil, take-all, take-length, take-at, take-append-le, drop-length, drop-at, drop-append-le, drop-append-add, drop-drop}
+use Rattle.dense_block.specs.Words.{termOf, withTerm}
 use Rattle.dense_block.proofs.Values.{Words, words-take, words-drop}
 
 -- row k of n rows of w words lies within them
@@ -50,3 +50,40 @@ term-part m w ws k h e =
     least-take : (n : ℕ) (l : List ℕ) → Dec (n ≤ length l) → take (min n (length l)) l ≡ take n l
     least-take n l (yes g) = rw (min-eq-left g)
     least-take n l (no g) = let f : length l ≤ n = omega (arith, g) in rw (min-eq-right f, take-length l) (sym (take-all n l f))
+
+-- ---- one row of a block written
+
+module _ (w : ℕ) (ws : List ℕ) (k : ℕ) (ys : List ℕ) (long : length ys ≡ w) (inside : k * w + w ≤ length ws) where
+  first : length (take (k * w) ws) ≡ k * w
+  first = length-take-le (k * w) ws (omega arith)
+
+  pub length-with : length (withTerm w ws k ys) ≡ length ws
+  length-with = simp (length-append, length-drop) (omega (arith, first))
+
+  pub term-same : termOf w (withTerm w ws k ys) k ≡ ys
+  term-same = rw (drop-at (take (k * w) ws) (ys ++ drop w (drop (k * w) ws)) (k * w) first) (take-at ys (drop w (drop (k * w) ws)) w long)
+
+  pub term-before : (j : ℕ) → j < k → termOf w (withTerm w ws k ys) j ≡ termOf w ws j
+  term-before j h = before (ys ++ drop w (drop (k * w) ws)) ∙ sym (ap (λ (l : List ℕ). termOf w l j) (sym (take-append-drop (k * w) ws)) ∙ before (drop (k * w) ws))
+    where
+      row-first : j * w + w ≤ k * w
+      row-first = row-within j k w (k * w) h (omega arith)
+
+      before : (rest : List ℕ) → termOf w (take (k * w) ws ++ rest) j ≡ take w (drop (j * w) (take (k * w) ws))
+      before rest =
+          rw (drop-append-le (j * w) (take (k * w) ws) rest (omega (arith, row-first, first)))
+          (take-append-le w (drop (j * w) (take (k * w) ws)) rest (omega (arith, row-first, first, length-drop (j * w) (take (k * w) ws))))
+
+  pub behind-with : (n : ℕ) → k * w + w ≤ n → drop n (withTerm w ws k ys) ≡ drop n ws
+  behind-with n h =
+      let m = n - (k * w + w) in
+      let e : n ≡ k * w + (w + m) = omega arith in
+      rw e (
+      past (take (k * w) ws) (ys ++ drop w (drop (k * w) ws)) (k * w) (w + m) first
+      ∙ past ys (drop w (drop (k * w) ws)) w m long
+      ∙ drop-drop m w (drop (k * w) ws)
+      ∙ drop-drop (w + m) (k * w) ws
+      )
+    where
+      past : (l rest : List ℕ) (a b : ℕ) → length l ≡ a → drop (a + b) (l ++ rest) ≡ drop b rest
+      past l rest a b g = ap (λ (c : ℕ). drop (c + b) (l ++ rest)) (sym g) ∙ drop-append-add l rest b

@@ -77,3 +77,7 @@ strays ws q = ltb 0 (value ws / 2 ^ q)
 -- row `term` of a block of rows of `width` words
 abbrev pub termOf : ℕ → List ℕ → ℕ → List ℕ
 termOf width ws term = take width (drop (term * width) ws)
+
+-- the block with that row made ys
+abbrev pub withTerm : ℕ → List ℕ → ℕ → List ℕ → List ℕ
+withTerm width ws term ys = take (term * width) ws ++ (ys ++ drop width (drop (term * width) ws))

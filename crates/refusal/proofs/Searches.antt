@@ -93,6 +93,30 @@ unfolding allBelow
 all-of zero test h = refl
 all-of (suc n) test h = both (h n (omega arith)) (all-of n test (λ k l. h k (omega arith)))
 
+-- a loop that counts down
+all-step : (k : ℕ) (test : ℕ → Bool) → 0 < k → allBelow k test ≡ (test (k - 1) && allBelow (k - 1) test)
+unfolding allBelow
+all-step k test h = go k (k - 1) (omega arith)
+  where
+    go : (k j : ℕ) → k ≡ suc j → allBelow k test ≡ (test j && allBelow j test)
+    go k j e = rw e
+
+pub all-here : (k : ℕ) (test : ℕ → Bool) → 0 < k → test (k - 1) ≡ false → allBelow k test ≡ false
+all-here k test h e = rw (all-step k test h, e)
+
+pub all-below : (k : ℕ) (test : ℕ → Bool) → 0 < k → test (k - 1) ≡ true → allBelow k test ≡ allBelow (k - 1) test
+all-below k test h e = rw (all-step k test h, e)
+
+pub all-none : (k : ℕ) (test : ℕ → Bool) → k ≤ 0 → allBelow k test ≡ true
+unfolding allBelow
+all-none k test h = let e : k ≡ 0 = omega arith in rw e
+
+-- the same tests give the same answer
+pub all-same : (n : ℕ) (f g : ℕ → Bool) → ((k : ℕ) → k < n → f k ≡ g k) → allBelow n f ≡ allBelow n g
+unfolding allBelow
+all-same zero f g h = refl
+all-same (suc n) f g h = rw (h n (omega arith), all-same n f g (λ k l. h k (omega arith)))
+
 -- one number that fails
 pub not-all : (n : ℕ) (test : ℕ → Bool) (k : ℕ) → k < n → test k ≡ false → allBelow n test ≡ false
 not-all n test k l h = go (allBelow n test) refl
@@ -118,6 +142,12 @@ least-of (suc n) test v h t b = go (split h) (λ l. least-of n test v l t b)
         let u : test n ≡ true = rw e at t in
         rw (least-none n test (λ k l. b k (omega arith)), u) (ap found (sym e))
     go (inr l) rest = rw (rest l)
+
+-- the same tests give the same answer
+pub least-same : (n : ℕ) (f g : ℕ → Bool) → ((k : ℕ) → k < n → f k ≡ g k) → leastBelow n f ≡ leastBelow n g
+unfolding leastBelow
+least-same zero f g h = refl
+least-same (suc n) f g h = rw (h n (omega arith), least-same n f g (λ k l. h k (omega arith)))
 
 pub record Is-least (n : ℕ) (test : ℕ → Bool) (v : ℕ) : Type 0 where
   pub low : v < n
