@@ -1,7 +1,18 @@
--- Small cases of the algebra, by computing: the letters X, Y and Z on one column.
+-- Small cases of the algebra, by computing: the letters X, Y and Z on one column; Jordan-Wigner on three modes, of which all that is claimed of an encoding holds;
+-- parity on two, where the order of the modes shows in the phase.
+use Prim.Native.Nat.{_+_, _-_, _/_, _%_, _^_}
 use mathlib.Core.Path.{_≡_, refl}
+use mathlib.Core.List.{_∷_, []}
+use mathlib.Core.Bool.{true}
 use lib.Count.{ones, onesIn}
-use Rattle.algebra.specs.Rows.{common, Row, state, phase, times, identity, clash}
+use lib.ListN.{getD}
+use Rattle.refusal.specs.Search.{allBelow, someBelow, leastBelow, noPair, firstPair}
+use Rattle.algebra.specs.Rows.{bit, common, dot, Row, state, phase, times, identity, clash}
+use Rattle.algebra.specs.Modes.{Modes, e, d, paired, empty, vacuumRule, commutingPair}
+use Rattle.algebra.specs.Coding.{done, occupy, encodeFrom, encode, found, foreign, seen, decodeFrom, decode}
+use Rattle.algebra.specs.Faithful.{Faithful}
+use Rattle.algebra.proofs.Pairs.{majorana-of}
+use Rattle.algebra.proofs.Demand3.{demand-3}
 
 abbrev X : Row
 X = record { p = 0; x = 1; z = 0 }
@@ -37,3 +48,50 @@ y-on-one = (refl, refl)
 letters-clash : (clash X Y ≡ 1) × (clash Y Z ≡ 1) × (clash Z X ≡ 1) × (clash X X ≡ 0)
 unfolding clash common ones onesIn
 letters-clash = (refl, refl, refl, refl)
+
+-- ---- Jordan-Wigner on three modes
+
+-- row 2j is X on column j with Z before it, row 2j + 1 Y on column j with Z before it
+abbrev jordan-wigner : Modes
+jordan-wigner = record { n = 3; row = λ j. record { p = j % 2; x = 2 ^ (j / 2); z = 2 ^ (j / 2 + j % 2) - 1 } }
+
+no-pair : commutingPair jordan-wigner ≡ noPair
+unfolding commutingPair firstPair leastBelow someBelow clash common ones onesIn
+no-pair = refl
+
+vacuum : vacuumRule jordan-wigner 0 ≡ true
+unfolding vacuumRule allBelow empty paired e d dot common ones onesIn
+vacuum = refl
+
+faithful : Faithful jordan-wigner 0
+faithful = demand-3 jordan-wigner 0 (majorana-of jordan-wigner no-pair) vacuum
+
+encoded : encode jordan-wigner 0 5 ≡ done 5 0
+unfolding encode encodeFrom occupy bit empty paired e d dot common ones onesIn
+encoded = refl
+
+decoded : decode jordan-wigner 0 6 ≡ found 6
+unfolding decode decodeFrom seen paired e d dot common ones onesIn
+decoded = refl
+
+-- a string with a column that no mode has
+no-list : decode jordan-wigner 0 8 ≡ foreign
+unfolding decode decodeFrom seen paired e d dot common ones onesIn
+no-list = refl
+
+-- ---- parity on two modes: XZ, YI, XX, XY
+
+abbrev parity : Modes
+parity = record {
+  n = 2;
+  row = λ j. record { p = j % 2; x = getD (1 ∷ 1 ∷ 3 ∷ 3 ∷ []) j 0; z = getD (2 ∷ 1 ∷ 0 ∷ 2 ∷ []) j 0 };
+}
+
+-- both modes: the second flips both columns, and the first then reads the second column
+parity-both : encode parity 0 3 ≡ done 2 2
+unfolding encode encodeFrom occupy bit empty paired e d dot common ones onesIn
+parity-both = refl
+
+parity-back : decode parity 0 2 ≡ found 3
+unfolding decode decodeFrom seen paired e d dot common ones onesIn
+parity-back = refl

@@ -2,3 +2,13 @@ pub mod Digits
 pub mod Dots
 pub mod RowLaws
 pub mod Examples
+pub mod ChoiceLaws
+pub mod Combos
+pub mod Operators
+pub mod Duals
+pub mod Pairs
+pub mod Codings
+pub mod Demand3
+pub mod Meaning
+pub mod Independence
+pub mod Existence

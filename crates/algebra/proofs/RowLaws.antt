@@ -77,6 +77,10 @@ pub clash-self : (r : Row) → clash r r ≡ 0
 unfolding clash
 clash-self r = rw (common-comm (r .z) (r .x)) (omega arith)
 
+pub clash-identity : (r : Row) → clash identity r ≡ 0
+unfolding clash
+clash-identity r = rw (common-comm 0 (r .z), common-comm 0 (r .x), common-zero-r, common-zero-r)
+
 -- the phases of the two orders differ by twice the clash
 pub orders : (r s : Row) → times r s .p ≡ (times s r .p + 2 * clash r s) % 4
 unfolding clash
