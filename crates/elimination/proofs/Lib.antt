@@ -1,0 +1,11 @@
+pub mod Lows
+pub mod Elimination
+pub mod Dependence
+pub mod Columns
+pub mod RoomLaws
+pub mod Solutions
+pub mod Substitution
+pub mod BackLaws
+pub mod Answers
+pub mod Vacuums
+pub mod Examples

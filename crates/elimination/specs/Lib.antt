@@ -1,0 +1,4 @@
+pub mod Eliminated
+pub mod Rooms
+pub mod Equations
+pub mod Solving
