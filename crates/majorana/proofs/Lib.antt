@@ -1,0 +1,13 @@
+pub mod Theorems
+pub mod Cases
+pub mod SetLaws
+pub mod ModeLaws
+pub mod CodeSteps
+pub mod CodeAnswers
+pub mod CheckLaws
+pub mod CheckAnswers
+pub mod ProductLaws
+pub mod ProductAnswers
+pub mod ProductExamples
+pub mod OrderLaws
+pub mod Permutations

@@ -1,0 +1,6 @@
+pub mod Sets
+pub mod Checks
+pub mod Codes
+pub mod Rooms
+pub mod Products
+pub mod Orders
