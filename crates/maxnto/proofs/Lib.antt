@@ -1,0 +1,4 @@
+pub mod Masks
+pub mod Phases
+pub mod Outcomes
+pub mod Examples
