@@ -1,0 +1,30 @@
+-- Small cases of trees, by computing: the rows of each named tree, which pin letters and order.
+use Prim.Native.Nat.{ℕ, zero, suc}
+use mathlib.Core.Path.{_≡_, refl}
+use mathlib.Core.List.{List, [], _∷_, _++_}
+use mathlib.Core.Bool.{Bool, true, false}
+use Rattle.refusal.specs.Search.{someBelow, leastBelow}
+use Rattle.algebra.specs.Rows.{Row}
+use Rattle.algebra.specs.Modes.{Modes}
+use Rattle.ternarytree.specs.Trees.{Tree, parentIn, leafIn}
+use Rattle.ternarytree.specs.Paths.{letter, above, rowAt}
+use Rattle.ternarytree.specs.Leaves.{namedSlot, zEnd, chainEnd, slotOf, rows}
+use Rattle.ternarytree.specs.Named.{Named, jordanWigner, parity, bravyiKitaev, jkmn, under, namedTree}
+
+abbrev row : ℕ → ℕ → ℕ → Row
+row p x z = record { p = p; x = x; z = z }
+
+-- the first k rows
+abbrev firstRows : Modes → ℕ → List Row
+firstRows m zero = []
+firstRows m (suc k) = firstRows m k ++ (m .row k ∷ [])
+
+-- XI, YI, ZX, ZY
+jordan-wigner-2 : firstRows (rows false (namedTree jordanWigner 2)) 4 ≡ row 0 1 0 ∷ row 1 1 1 ∷ row 0 2 1 ∷ row 1 2 3 ∷ []
+unfolding rowAt letter above parentIn leastBelow slotOf zEnd chainEnd under
+jordan-wigner-2 = refl
+
+-- XZ, YI, XX, XY
+parity-2 : firstRows (rows false (namedTree parity 2)) 4 ≡ row 0 1 2 ∷ row 1 1 1 ∷ row 0 3 0 ∷ row 1 3 2 ∷ []
+unfolding rowAt letter above parentIn leastBelow slotOf zEnd chainEnd under
+parity-2 = refl

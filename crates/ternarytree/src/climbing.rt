@@ -1,0 +1,98 @@
+// Climbs to the root, and the tests of a whole tree.
+
+use crate::reading;
+ghost use mathlib.Core.Path.{_≡_};
+ghost use mathlib.Core.List.{List};
+ghost use Prim.Native.Nat.{ℕ, _+_, _*_, _<_, _≤_};
+ghost use lib.ListN.{length};
+ghost use Rattle.ternarytree.specs.Trees.{Tree, climb, scattered, missing};
+ghost use Rattle.ternarytree.specs.Building.{qubitAt};
+ghost use Rattle.ternarytree.specs.Tables.{nth, AtMost, Blank, flat, Parents, Children, Wired, verdict};
+
+// The node that n steps up from node i lead to.
+pub fn climb_up(parents: &[usize; 256], n: usize, i: usize) -> usize
+    requires { ⌜ (n ≤ 256) × (i < n) × AtMost n (3 * n) (nth (now parents)) ⌝ }
+    ensures { λ r. ⌜ (r < n) × ((t : Tree) → Parents t n (now (parents .entry)) → r ≡ climb t n i) ⌝ }
+{
+    let mut at = i;
+    let mut left = n;
+    while 0 < left {
+        let up = parents[at];
+        if up == 0 {
+            return at;
+        }
+        at = (up - 1) / 3;
+        left -= 1;
+    }
+    at
+}
+
+// Whether not all nodes hang from one root.
+pub fn is_scattered(parents: &[usize; 256], n: usize) -> bool
+    requires { ⌜ (n ≤ 256) × (0 < n) × AtMost n (3 * n) (nth (now parents)) ⌝ }
+    ensures { λ r. ⌜ ((t : Tree) → Parents t n (now (parents .entry)) → r ≡ scattered t) ⌝ }
+{
+    let top = climb_up(parents, n, 0);
+    if parents[top] != 0 {
+        return true;
+    }
+    let mut i = 0;
+    while i < n {
+        if climb_up(parents, n, i) != top {
+            return true;
+        }
+        i += 1;
+    }
+    false
+}
+
+// Whether a leaf has no slot.
+pub fn any_missing(slots: &[usize; 512], n: usize) -> bool
+    requires { ⌜ n ≤ 256 ⌝ }
+    ensures { λ r. ⌜ ((t : Tree) (ps : List ℕ) → Wired t n (3 * n) ps (now (slots .entry)) → r ≡ missing t) ⌝ }
+{
+    let mut m = 0;
+    while m < 2 * n {
+        if slots[m] == 0 {
+            return true;
+        }
+        m += 1;
+    }
+    false
+}
+
+// The number of the first test that a flatpack fails, or 0; then the tables, blank at first, hold the slots of its nodes and leaves and the nodes in its slots.
+pub fn check_tree(
+    leaves: bool,
+    entries: &[usize],
+    filled: &[bool],
+    n: usize,
+    parents: &mut [usize; 256],
+    children: &mut [usize; 768],
+    slots: &mut [usize; 512],
+) -> usize
+    requires { ⌜ (n ≤ 256) × (0 < n) × (4 * n ≤ length (now entries)) × (3 * n ≤ length (now filled)) × AtMost n 255 (qubitAt (now entries)) × Blank 256 (now parents) × (length (now parents) ≡ 256) × (length (now children) ≡ 768) × Blank 512 (now slots) × (length (now slots) ≡ 512) ⌝ }
+    ensures { λ r. ⌜ (r ≡ verdict leaves (flat leaves n (now (entries .entry)) (now (filled .entry)))) × (r ≡ 0 → Wired (flat leaves n (now (entries .entry)) (now (filled .entry))) n (3 * n) (now (parents .exit)) (now (slots .exit)) × Children (flat leaves n (now (entries .entry)) (now (filled .entry))) n (3 * n) (now (children .exit))) ⌝ }
+{
+    let fault = reading::wire(
+        leaves,
+        entries,
+        filled,
+        n,
+        &mut *parents,
+        children,
+        &mut *slots,
+    );
+    if fault != 0 {
+        return fault;
+    }
+    if is_scattered(parents, n) {
+        return 8;
+    }
+    if leaves {
+        if any_missing(slots, n) {
+            return 9;
+        }
+    }
+    0
+}

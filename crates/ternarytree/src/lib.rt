@@ -1,0 +1,148 @@
+// Ternary trees: flatpacks, with leaves or naive, and the named trees, from numbers to rows, phases and vacuum.
+//
+//   from_flatpack         a flatpack whose numbers name nodes and leaves
+//   from_flatpack_naive   a flatpack of nodes, with the leaves at the ends of Z chains
+//   from_name             Jordan-Wigner, parity, Bravyi-Kitaev or JKMN
+
+mod chains; // chains.rt: naive trees, the slots of the leaves
+mod climbing; // climbing.rt: climbs to the root, and the tests of a whole tree
+mod planting; // planting.rt: the named trees, into tables
+mod reading; // reading.rt: the entries and slots of a flatpack, into tables
+mod writing; // writing.rt: rows from trees, into packed words
+
+use refusal::Answer;
+use refusal::Refusal;
+ghost use mathlib.Core.Path.{_≡_};
+ghost use mathlib.Core.List.{[], _∷_};
+ghost use mathlib.Core.Bool.{Bool, true, false};
+ghost use Prim.Native.Nat.{ℕ, _*_, _<_, _≤_};
+ghost use lib.ListN.{length};
+ghost use Rattle.refusal.specs.Numbers.{bare, answered};
+ghost use Rattle.refusal.specs.Table.{_of_, short, firstOf};
+ghost use Rattle.dense_block.specs.Words.{wordsFor, zeroed};
+ghost use Rattle.ternarytree.specs.Trees.{Tree};
+ghost use Rattle.ternarytree.specs.Leaves.{slotOf, rows};
+ghost use Rattle.ternarytree.specs.Named.{namedTree};
+ghost use Rattle.ternarytree.specs.Building.{qubitAt, outside, reaches, treeChecks};
+ghost use Rattle.ternarytree.specs.Tables.{nth, AtMost, flat, Children, Wired, Slots, RowsWritten, TreeBuilt};
+
+// What a slot of a tree holds.
+pub enum Child {
+    Empty,
+    Node(usize),
+    XLeaf(usize),
+    YLeaf(usize),
+    // With leaves: a number that is no entry's qubit and not above the largest.
+    Low,
+}
+
+// A slot of a flatpack.
+pub enum Slot {
+    Blank,
+    Number(usize),
+}
+
+// The named trees.
+pub enum Named {
+    JordanWigner,
+    Parity,
+    BravyiKitaev,
+    Jkmn,
+}
+
+// 0 or above 256.
+fn outside(k: usize) -> bool
+    ensures { λ r. ⌜ r ≡ outside k ⌝ }
+{
+    if k == 0 {
+        return true;
+    }
+    256 < k
+}
+
+// The qubit of entry i; 0 past the end.
+fn qubit_at(entries: &[usize], i: usize) -> usize
+    requires { ⌜ i < 256 ⌝ }
+    ensures { λ r. ⌜ r ≡ qubitAt (now (entries .entry)) i ⌝ }
+{
+    let k = 4 * i;
+    if k < entries.len() { entries[k] } else { 0 }
+}
+
+// Whether the qubit of one of n entries is at or above b.
+fn reaches(entries: &[usize], n: usize, b: usize) -> bool
+    requires { ⌜ n ≤ 256 ⌝ }
+    ensures { λ r. ⌜ r ≡ reaches (now (entries .entry)) n b ⌝ }
+{
+    let mut i = 0;
+    while i < n {
+        if b <= qubit_at(entries, i) {
+            return true;
+        }
+        i += 1;
+    }
+    false
+}
+
+// Whether one of the lengths of the outputs is below what n modes need, with w words to a part of a row.
+fn outputs_short(
+    n: usize,
+    w: usize,
+    x: usize,
+    z: usize,
+    phases: usize,
+    vacuum: usize,
+    room: usize,
+) -> bool
+    requires { ⌜ (n ≤ 256) × (w ≤ 4) ⌝ }
+    ensures { λ r. ⌜ r ≡ short ((2 * n * w of x) ∷ (2 * n * w of z) ∷ (2 * n of phases) ∷ (w of vacuum) ∷ (4 * n * w of room) ∷ []) ⌝ }
+{
+    if x < 2 * n * w {
+        return true;
+    }
+    if z < 2 * n * w {
+        return true;
+    }
+    if phases < 2 * n {
+        return true;
+    }
+    if vacuum < w {
+        return true;
+    }
+    room < 4 * n * w
+}
+
+// The refusal of a number that a tree's tests give.
+fn refused(number: usize) -> Answer
+    requires { ⌜ (3 < number) × (number < 10) ⌝ }
+    ensures { λ r. ⌜ answered r ≡ bare number ⌝ }
+{
+    if number == 4 {
+        return Answer::Refused(Refusal::Child);
+    }
+    if number == 5 {
+        return Answer::Refused(Refusal::SelfChild);
+    }
+    if number == 6 {
+        return Answer::Refused(Refusal::SecondParent);
+    }
+    if number == 7 {
+        return Answer::Refused(Refusal::SecondEntry);
+    }
+    if number == 8 {
+        return Answer::Refused(Refusal::Roots);
+    }
+    Answer::Refused(Refusal::Leaf)
+}
+
+// The first n phases made zero.
+fn clear_phases(phases: &mut [u8], n: usize)
+    requires { ⌜ n ≤ length (now phases) ⌝ }
+    ensures { λ _. ⌜ now (phases .exit) ≡ zeroed n (now (phases .entry)) ⌝ }
+{
+    let mut i = 0;
+    while i < n {
+        phases[i] = 0;
+        i += 1;
+    }
+}
