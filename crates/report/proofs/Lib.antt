@@ -1,0 +1,11 @@
+pub mod Cuts
+pub mod Numbers
+pub mod Moves
+pub mod Tables
+pub mod Reading
+pub mod Digits
+pub mod Stores
+pub mod LineLaws
+pub mod Wholes
+pub mod Examples
+pub mod Written
