@@ -3,6 +3,7 @@
 
 use majorana::Encoded;
 ghost use Prim.Native.Nat.{_≤_};
+ghost use lib.ListN.{length};
 
 fn wide(x: u8) -> u64 {
     x as u64
@@ -126,10 +127,48 @@ fn three(
     vacuum: &[u64],
     list: &[u64],
     string: &[u64],
-) {
+    room: usize,
+)
+    requires { ⌜ room ≤ 5 ⌝ }
+{
     check(case, modes, qubits, x, z, phases, vacuum);
-    encode(case, modes, qubits, x, z, phases, vacuum, list, 5);
-    decode(case, modes, qubits, x, z, phases, vacuum, string, 5);
+    encode(case, modes, qubits, x, z, phases, vacuum, list, room);
+    decode(case, modes, qubits, x, z, phases, vacuum, string, room);
+}
+
+// The same, with so many words or phases of each slice.
+fn parts(
+    case: &[u8],
+    modes: usize,
+    qubits: usize,
+    x: &[u64],
+    nx: usize,
+    z: &[u64],
+    nz: usize,
+    phases: &[u8],
+    np: usize,
+    vacuum: &[u64],
+    nv: usize,
+    list: &[u64],
+    nl: usize,
+    string: &[u64],
+    ns: usize,
+    room: usize,
+)
+    requires { ⌜ (nx ≤ length (now x)) × (nz ≤ length (now z)) × (np ≤ length (now phases)) × (nv ≤ length (now vacuum)) × (nl ≤ length (now list)) × (ns ≤ length (now string)) × (room ≤ 5) ⌝ }
+{
+    three(
+        case,
+        modes,
+        qubits,
+        &x[..nx],
+        &z[..nz],
+        &phases[..np],
+        &vacuum[..nv],
+        &list[..nl],
+        &string[..ns],
+        room,
+    );
 }
 
 // Jordan-Wigner on two modes, its list 11 and that list's string, with these numbers of modes and qubits.
@@ -137,267 +176,105 @@ fn sized(case: &[u8], modes: usize, qubits: usize) {
     let x = [1u64, 1, 2, 2];
     let z = [0u64, 1, 1, 3];
     let phases = [0u8, 1, 0, 1];
-    let none = [0u64; 1];
+    let vacuum = [0u64; 1];
     let list = [3u64; 1];
     let string = [3u64; 1];
-    three(case, modes, qubits, &x, &z, &phases, &none, &list, &string);
+    three(
+        case,
+        modes,
+        qubits,
+        &x,
+        &z,
+        &phases,
+        &vacuum,
+        &list,
+        &string,
+        5,
+    );
 }
 
-// The same with these slices in place of its own.
-fn given(
+// The same, with so many words or phases of each slice.
+fn cut(case: &[u8], nx: usize, nz: usize, np: usize, nv: usize, nl: usize, ns: usize, room: usize)
+    requires { ⌜ (nx ≤ 4) × (nz ≤ 4) × (np ≤ 4) × (nv ≤ 1) × (nl ≤ 1) × (ns ≤ 1) × (room ≤ 5) ⌝ }
+{
+    let x = [1u64, 1, 2, 2];
+    let z = [0u64, 1, 1, 3];
+    let phases = [0u8, 1, 0, 1];
+    let vacuum = [0u64; 1];
+    let list = [3u64; 1];
+    let string = [3u64; 1];
+    parts(
+        case,
+        2,
+        2,
+        &x,
+        nx,
+        &z,
+        nz,
+        &phases,
+        np,
+        &vacuum,
+        nv,
+        &list,
+        nl,
+        &string,
+        ns,
+        room,
+    );
+}
+
+// The same, with these in place of the last X part, the first Z part, the last phase, the vacuum, the list and the string.
+fn changed(case: &[u8], last: u64, first: u64, p: u8, v: u64, l: u64, s: u64) {
+    let x = [1u64, 1, 2, last];
+    let z = [first, 1, 1, 3];
+    let phases = [0u8, 1, 0, p];
+    let vacuum = [v; 1];
+    let list = [l; 1];
+    let string = [s; 1];
+    three(case, 2, 2, &x, &z, &phases, &vacuum, &list, &string, 5);
+}
+
+// 256 modes on 256 qubits, with so many words or phases of each slice. All rows are the identity, so X parts agree and d is 3, odd. Mode 255 is occupied if `top` is 2^63.
+fn largest(
     case: &[u8],
-    x: &[u64],
-    z: &[u64],
-    phases: &[u8],
-    vacuum: &[u64],
-    list: &[u64],
-    string: &[u64],
-) {
-    three(case, 2, 2, x, z, phases, vacuum, list, string);
-}
-
-fn one_short() {
-    let x = [1u64, 1, 2, 2];
-    let z = [0u64, 1, 1, 3];
-    let phases = [0u8, 1, 0, 1];
-    let none = [0u64; 1];
-    let list = [3u64; 1];
-    let string = [3u64; 1];
-    given(b"x one short", &x[..3], &z, &phases, &none, &list, &string);
-    given(b"z one short", &x, &z[..3], &phases, &none, &list, &string);
-    given(
-        b"phases one short",
-        &x,
-        &z,
-        &phases[..3],
-        &none,
-        &list,
-        &string,
-    );
-    given(
-        b"vacuum one short",
-        &x,
-        &z,
-        &phases,
-        &none[..0],
-        &list,
-        &string,
-    );
-    encode(
-        b"list one short",
-        2,
-        2,
-        &x,
-        &z,
-        &phases,
-        &none,
-        &list[..0],
-        5,
-    );
-    decode(
-        b"string one short",
-        2,
-        2,
-        &x,
-        &z,
-        &phases,
-        &none,
-        &string[..0],
-        5,
-    );
-    encode(b"out one short", 2, 2, &x, &z, &phases, &none, &list, 0);
-    decode(b"out one short", 2, 2, &x, &z, &phases, &none, &string, 0);
-}
-
-fn stray() {
-    let x = [1u64, 1, 2, 2];
-    let z = [0u64, 1, 1, 3];
-    let phases = [0u8, 1, 0, 1];
-    let none = [0u64; 1];
-    let list = [3u64; 1];
-    let string = [3u64; 1];
-    let xs = [1u64, 1, 2, 6];
-    let zs = [4u64, 1, 1, 3];
-    let third = [4u64; 1];
-    given(b"stray bit in x", &xs, &z, &phases, &none, &list, &string);
-    given(b"stray bit in z", &x, &zs, &phases, &none, &list, &string);
-    given(
-        b"stray bit in the vacuum",
-        &x,
-        &z,
-        &phases,
-        &third,
-        &list,
-        &string,
-    );
-    encode(
-        b"stray bit in the list",
-        2,
-        2,
-        &x,
-        &z,
-        &phases,
-        &none,
-        &third,
-        5,
-    );
-    decode(
-        b"stray bit in the string",
-        2,
-        2,
-        &x,
-        &z,
-        &phases,
-        &none,
-        &third,
-        5,
-    );
-}
-
-fn high_phase() {
-    let x = [1u64, 1, 2, 2];
-    let z = [0u64, 1, 1, 3];
-    let four = [0u8, 1, 0, 4];
-    let top = [255u8, 1, 0, 1];
-    let none = [0u64; 1];
-    let list = [3u64; 1];
-    let string = [3u64; 1];
-    given(b"phase 4", &x, &z, &four, &none, &list, &string);
-    given(b"phase 255", &x, &z, &top, &none, &list, &string);
-}
-
-// 256 modes on 256 qubits, all rows the identity: X parts agree and d is 3, odd.
-fn largest() {
+    top: u64,
+    nx: usize,
+    nz: usize,
+    np: usize,
+    nv: usize,
+    nl: usize,
+    ns: usize,
+    room: usize,
+)
+    requires { ⌜ (nx ≤ 2048) × (nz ≤ 2048) × (np ≤ 512) × (nv ≤ 4) × (nl ≤ 4) × (ns ≤ 4) × (room ≤ 5) ⌝ }
+{
     let x = [0u64; 2048];
     let z = [0u64; 2048];
     let phases = [0u8; 512];
-    let none = [0u64; 4];
-    let list = [0u64; 4];
+    let vacuum = [0u64; 4];
+    let list = [0u64, 0, 0, top];
     let string = [0u64; 4];
-    let last = [0u64, 0, 0, 9223372036854775808];
-    three(
-        b"256 modes",
+    parts(
+        case,
         256,
         256,
         &x,
+        nx,
         &z,
+        nz,
         &phases,
-        &none,
+        np,
+        &vacuum,
+        nv,
         &list,
+        nl,
         &string,
-    );
-    encode(
-        b"256 modes, the last occupied",
-        256,
-        256,
-        &x,
-        &z,
-        &phases,
-        &none,
-        &last,
-        5,
+        ns,
+        room,
     );
 }
 
-// The same, each slice one short.
-fn largest_short() {
-    let x = [0u64; 2048];
-    let z = [0u64; 2048];
-    let phases = [0u8; 512];
-    let none = [0u64; 4];
-    let list = [0u64; 4];
-    let string = [0u64; 4];
-    three(
-        b"256 modes, x one short",
-        256,
-        256,
-        &x[..2047],
-        &z,
-        &phases,
-        &none,
-        &list,
-        &string,
-    );
-    three(
-        b"256 modes, z one short",
-        256,
-        256,
-        &x,
-        &z[..2047],
-        &phases,
-        &none,
-        &list,
-        &string,
-    );
-    three(
-        b"256 modes, phases one short",
-        256,
-        256,
-        &x,
-        &z,
-        &phases[..511],
-        &none,
-        &list,
-        &string,
-    );
-    three(
-        b"256 modes, vacuum one short",
-        256,
-        256,
-        &x,
-        &z,
-        &phases,
-        &none[..3],
-        &list,
-        &string,
-    );
-    encode(
-        b"256 modes, list one short",
-        256,
-        256,
-        &x,
-        &z,
-        &phases,
-        &none,
-        &list[..3],
-        5,
-    );
-    decode(
-        b"256 modes, string one short",
-        256,
-        256,
-        &x,
-        &z,
-        &phases,
-        &none,
-        &string[..3],
-        5,
-    );
-    encode(
-        b"256 modes, out one short",
-        256,
-        256,
-        &x,
-        &z,
-        &phases,
-        &none,
-        &list,
-        3,
-    );
-    decode(
-        b"256 modes, out one short",
-        256,
-        256,
-        &x,
-        &z,
-        &phases,
-        &none,
-        &string,
-        3,
-    );
-}
-
-fn main() {
+fn sizes() {
     sized(b"2 modes", 2, 2);
     sized(b"0 modes", 0, 2);
     sized(b"257 modes", 257, 2);
@@ -405,9 +282,83 @@ fn main() {
     sized(b"0 qubits", 2, 0);
     sized(b"257 qubits", 2, 257);
     sized(b"the largest number of qubits", 2, 18446744073709551615);
+}
+
+fn one_short() {
+    cut(b"x one short", 3, 4, 4, 1, 1, 1, 5);
+    cut(b"z one short", 4, 3, 4, 1, 1, 1, 5);
+    cut(b"phases one short", 4, 4, 3, 1, 1, 1, 5);
+    cut(b"vacuum one short", 4, 4, 4, 0, 1, 1, 5);
+    cut(b"list one short", 4, 4, 4, 1, 0, 1, 5);
+    cut(b"string one short", 4, 4, 4, 1, 1, 0, 5);
+    cut(b"out one short", 4, 4, 4, 1, 1, 1, 0);
+}
+
+fn bad_values() {
+    changed(b"stray bit in x", 6, 0, 1, 0, 3, 3);
+    changed(b"stray bit in z", 2, 4, 1, 0, 3, 3);
+    changed(b"stray bit in the vacuum", 2, 0, 1, 4, 3, 3);
+    changed(b"stray bit in the list", 2, 0, 1, 0, 7, 3);
+    changed(b"stray bit in the string", 2, 0, 1, 0, 3, 7);
+    changed(b"phase 4", 2, 0, 4, 0, 3, 3);
+    changed(b"phase 255", 2, 0, 255, 0, 3, 3);
+}
+
+fn largest_sizes() {
+    largest(b"256 modes", 0, 2048, 2048, 512, 4, 4, 4, 5);
+    largest(
+        b"256 modes, the last occupied",
+        9223372036854775808,
+        2048,
+        2048,
+        512,
+        4,
+        4,
+        4,
+        5,
+    );
+    largest(b"256 modes, x one short", 0, 2047, 2048, 512, 4, 4, 4, 5);
+    largest(b"256 modes, z one short", 0, 2048, 2047, 512, 4, 4, 4, 5);
+    largest(
+        b"256 modes, phases one short",
+        0,
+        2048,
+        2048,
+        511,
+        4,
+        4,
+        4,
+        5,
+    );
+    largest(
+        b"256 modes, vacuum one short",
+        0,
+        2048,
+        2048,
+        512,
+        3,
+        4,
+        4,
+        5,
+    );
+    largest(b"256 modes, list one short", 0, 2048, 2048, 512, 4, 3, 4, 5);
+    largest(
+        b"256 modes, string one short",
+        0,
+        2048,
+        2048,
+        512,
+        4,
+        4,
+        3,
+        5,
+    );
+    largest(b"256 modes, out one short", 0, 2048, 2048, 512, 4, 4, 4, 3);
+}
+
+fn main() {
+    sizes();
     one_short();
-    stray();
-    high_phase();
-    largest();
-    largest_short();
+    bad_values();
+    largest_sizes();
 }
