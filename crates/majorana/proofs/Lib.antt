@@ -6,6 +6,8 @@ pub mod CodeSteps
 pub mod CodeAnswers
 pub mod CheckLaws
 pub mod CheckAnswers
+pub mod VacuumLaws
+pub mod VacuumAnswers
 pub mod ProductLaws
 pub mod ProductAnswers
 pub mod ProductExamples

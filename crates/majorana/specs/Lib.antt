@@ -2,5 +2,6 @@ pub mod Sets
 pub mod Checks
 pub mod Codes
 pub mod Rooms
+pub mod Vacuums
 pub mod Products
 pub mod Orders
