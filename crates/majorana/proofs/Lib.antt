@@ -1,4 +1,5 @@
 pub mod Theorems
+pub mod NewTheorems
 pub mod Cases
 pub mod SetLaws
 pub mod ModeLaws

@@ -187,7 +187,7 @@ room-within n w h = let l : n ≤ 2 * n = omega arith in let k : w + 1 ≤ w + w
 
 -- ---- the vacuum that is found
 
-vacuum-low : (m : Modes) (q : ℕ) → vacuum m q < 2 ^ q
+pub vacuum-low : (m : Modes) (q : ℕ) → vacuum m q < 2 ^ q
 unfolding vacuum solvedVacuum
 vacuum-low m q = go (leastBelow (2 ^ q) (λ v. vacuumRule m v && plain m q v)) refl
   where
