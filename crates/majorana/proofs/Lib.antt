@@ -9,5 +9,3 @@ pub mod CheckAnswers
 pub mod ProductLaws
 pub mod ProductAnswers
 pub mod ProductExamples
-pub mod OrderLaws
-pub mod Permutations

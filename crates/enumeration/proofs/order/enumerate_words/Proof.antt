@@ -6,11 +6,11 @@ use mathlib.Core.List.{List, _++_}
 use lib.ListN.{length, take, drop}
 use Rattle.dense_block.specs.Words.{termOf}
 use Rattle.dense_block.proofs.Terms.{row-within}
-use Rattle.majorana.specs.Orders.{oldRow, joined, enumeratedWords}
-use Rattle.majorana.proofs.OrderLaws.{mode-given, old-row-within, length-first, next-row}
+use Rattle.enumeration.specs.Orders.{oldRow, joined, enumeratedWords}
+use Rattle.enumeration.proofs.OrderLaws.{mode-given, old-row-within, length-first, next-row}
 use borrow.Author.Needs.{needs}
-use Rattle.majorana.proofs.order.enumerate_words.Statement.{statement}
-use Rattle.majorana.proofs.order.enumerate_words.Tie as tie
+use Rattle.enumeration.proofs.order.enumerate_words.Statement.{statement}
+use Rattle.enumeration.proofs.order.enumerate_words.Tie as tie
 
 abbrev Inv-loop : tie.InvT-loop
 Inv-loop modes w map x out₀ rows k₀ out k = (k ≤ 2 * modes) × (length out ≡ length out₀) × (out ≡ joined k (λ k. termOf w x (oldRow map k)) ++ drop (k * w) out₀)

@@ -12,8 +12,8 @@ use lib.ListN.{getD}
 use Rattle.refusal.specs.Search.{someBelow, allBelow, Least, found, none, leastBelow}
 use Rattle.refusal.proofs.Bools.{never}
 use Rattle.refusal.proofs.Searches.{some-of, some-at, none-of, all-of, Searched, hit, miss, searched}
-use Rattle.majorana.specs.Orders.{among, newNumber, permutation, enumeratedWords, enumeratedPhases}
-use Rattle.majorana.proofs.OrderLaws.{number-new, number-below, numbers-differ}
+use Rattle.enumeration.specs.Orders.{among, newNumber, permutation, enumeratedWords, enumeratedPhases}
+use Rattle.enumeration.proofs.OrderLaws.{number-new, number-below, numbers-differ}
 
 -- ---- numbers all below n and no two equal
 
