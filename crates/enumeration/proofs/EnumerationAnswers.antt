@@ -25,7 +25,7 @@ use Rattle.enumeration.specs.Enumerations.{Outs, outs, enumerationShort,
 use Rattle.enumeration.proofs.OrderLaws.{maps-of}
 
 -- slices that hold what is needed of each are not too short
-long-enough : (lent : List Lent) → Hold lent → short lent ≡ false
+pub long-enough : (lent : List Lent) → Hold lent → short lent ≡ false
 long-enough [] h = refl
 long-enough ((need of have) ∷ rest) h = rw (le-ltb have need (h .0)) (long-enough rest (h .1))
 
