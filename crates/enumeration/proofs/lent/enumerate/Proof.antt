@@ -2,9 +2,10 @@
 use Prim.Native.Nat.{ℕ, _*_, _≤_}
 use native.Mathlib.Nat.{mul-le-mul}
 use native.Mathlib.Omega.{arith}
-use mathlib.Core.Path.{_≡_, sym, _∙_}
+use mathlib.Core.Path.{_≡_, sym, ap, _∙_}
 use mathlib.Core.Bool.{true}
 use borrow.Author.Tests.{not-true, not-false}
+use Rattle.dense_block.specs.Words.{zeroed}
 use Rattle.majorana.specs.Sets.{Set, given}
 use Rattle.enumeration.specs.Orders.{permutation}
 use Rattle.enumeration.specs.Enumerations.{Outs, outs}
@@ -50,7 +51,7 @@ same-length c = search needs
 returns : tie.Need-returns
 returns c =
     let s = c .before .before .before .before .before .before .before .before .before .before .before .before .before .before .before .before in
-    enumerated-map (set s) (s .args .vacuum .now) (s .args .map .now) (old s) (s .pre .1) (sym (c .before .before .before .before .before .is-permutation .ensures) ∙ not-true _ (c .before .before .before .before .if1 .taken)) (c .before .before .clear .last .0) (rw (s .pre .0) at (c .before .before .clear .ensures))
+    enumerated-map (set s) (s .args .vacuum .now) (s .args .map .now) (old s) (s .pre .1) (sym (c .before .before .before .before .before .is-permutation .ensures) ∙ not-true _ (c .before .before .before .before .if1 .taken)) (c .before .before .clear .last .0) (c .before .before .clear .ensures ∙ ap (λ (k : ℕ). zeroed (4 * s .args .modes * k) (s .args .room .now)) (s .pre .0))
 
 check-rows-requires : tie.Need-check-rows-requires
 check-rows-requires c κs = search needs
