@@ -12,5 +12,3 @@ pub mod VacuumAnswers
 pub mod ProductLaws
 pub mod ProductAnswers
 pub mod ProductExamples
-pub mod OrderLaws
-pub mod Permutations

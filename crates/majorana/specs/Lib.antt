@@ -4,4 +4,3 @@ pub mod Codes
 pub mod Rooms
 pub mod Vacuums
 pub mod Products
-pub mod Orders

@@ -1,5 +1,6 @@
 // Row sets: n modes on q qubits, two rows a mode.
 //
+//   bad_size                     whether 1 refuses these sizes
 //   check_rows                   10, 11 or 13 unless rows anticommute, are independent, and the vacuum rule holds
 //   check_vacuum                 13 unless the vacuum rule holds at the given string
 //   determine_vacuum_state       the string that meets the vacuum rule, or 12
@@ -15,7 +16,6 @@ mod check;
 mod coding;
 mod factors;
 mod mode;
-mod order;
 mod rows;
 mod vacuum;
 
@@ -27,7 +27,7 @@ use refusal::Answer;
 use refusal::Refusal;
 ghost use mathlib.Core.Path.{_≡_};
 ghost use Rattle.refusal.specs.Numbers.{answered};
-ghost use Rattle.majorana.specs.Sets.{given};
+ghost use Rattle.majorana.specs.Sets.{given, badSize};
 ghost use Rattle.majorana.specs.Checks.{vacuumChecked, RowsChecked};
 ghost use Rattle.majorana.specs.Vacuums.{Solves, Makes};
 ghost use Rattle.majorana.specs.Codes.{Encodes, Decodes};
@@ -51,6 +51,22 @@ pub enum RealMultiplied {
     Refused(Refusal),
 }
 
+// Whether modes or qubits are 0 or above 256.
+pub fn bad_size(modes: usize, qubits: usize) -> bool
+    ensures { λ r. ⌜ r ≡ badSize modes qubits ⌝ }
+{
+    if modes == 0 {
+        return true;
+    }
+    if 256 < modes {
+        return true;
+    }
+    if qubits == 0 {
+        return true;
+    }
+    256 < qubits
+}
+
 // Whether the vacuum rule holds at `vacuum`.
 pub fn check_vacuum(
     modes: usize,
@@ -62,7 +78,7 @@ pub fn check_vacuum(
 ) -> Answer
     ensures { λ r. ⌜ answered r ≡ vacuumChecked (given modes qubits (now (x .entry)) (now (z .entry)) (now (phases .entry))) (now (vacuum .entry)) ⌝ }
 {
-    if rows::bad_size(modes, qubits) {
+    if bad_size(modes, qubits) {
         return Answer::Refused(Refusal::Size);
     }
     let w = dense_block::words_for(qubits);
@@ -92,7 +108,7 @@ pub fn check_rows(
 ) -> Answer
     ensures { λ r. ⌜ RowsChecked (given modes qubits (now (x .entry)) (now (z .entry)) (now (phases .entry))) (now (vacuum .entry)) (now (room .entry)) r (now (room .exit)) ⌝ }
 {
-    if rows::bad_size(modes, qubits) {
+    if bad_size(modes, qubits) {
         return Answer::Refused(Refusal::Size);
     }
     let w = dense_block::words_for(qubits);
@@ -203,7 +219,7 @@ pub fn try_encode(
 ) -> Encoded
     ensures { λ r. ⌜ Encodes (given modes qubits (now (x .entry)) (now (z .entry)) (now (phases .entry))) (now (vacuum .entry)) (now (list .entry)) (now (out .entry)) r (now (out .exit)) ⌝ }
 {
-    if rows::bad_size(modes, qubits) {
+    if bad_size(modes, qubits) {
         return Encoded::Refused(Refusal::Size);
     }
     let w = dense_block::words_for(qubits);
@@ -245,7 +261,7 @@ pub fn decode_zbasis_state(
 ) -> Answer
     ensures { λ r. ⌜ Decodes (given modes qubits (now (x .entry)) (now (z .entry)) (now (phases .entry))) (now (vacuum .entry)) (now (string .entry)) (now (out .entry)) r (now (out .exit)) ⌝ }
 {
-    if rows::bad_size(modes, qubits) {
+    if bad_size(modes, qubits) {
         return Answer::Refused(Refusal::Size);
     }
     let w = dense_block::words_for(qubits);
