@@ -21,3 +21,4 @@ pub mod RowSteps
 pub mod AllRows
 pub mod VacuumSteps
 pub mod PlantSteps
+pub mod BuildSteps

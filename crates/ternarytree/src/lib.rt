@@ -4,6 +4,7 @@
 //   from_flatpack_naive   a flatpack of nodes, with the leaves at the ends of Z chains
 //   from_name             Jordan-Wigner, parity, Bravyi-Kitaev or JKMN
 
+mod building; // building.rt: from tables to rows, and from flatpacks and names to tables
 mod chains; // chains.rt: naive trees, the slots of the leaves
 mod climbing; // climbing.rt: climbs to the root, and the tests of a whole tree
 mod planting; // planting.rt: the named trees, into tables
