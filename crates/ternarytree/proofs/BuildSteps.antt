@@ -16,7 +16,9 @@ use Rattle.dense_block.proofs.Clears.{zeroed-same}
 use Rattle.ternarytree.specs.Trees.{Tree}
 use Rattle.ternarytree.specs.Paths.{rowAt}
 use Rattle.ternarytree.specs.Leaves.{slotOf, rows}
-use Rattle.ternarytree.specs.Tables.{nth, AtMost, RowsWritten, StoredX, Ready, rowsAnswer, TreeBuilt}
+use Rattle.ternarytree.specs.Building.{qubitAt}
+use Rattle.ternarytree.specs.Tables.{nth, AtMost, flat, Wired, Slots, RowsWritten, StoredX, Ready, rowsAnswer, TreeBuilt}
+use Rattle.ternarytree.proofs.ClimbSteps.{wired-parents}
 use Rattle.ternarytree.proofs.Bounds.{Within, low-row}
 
 -- what was laid or listed and then cleared
@@ -76,3 +78,14 @@ module _ (leaves : Bool) (t : Tree) (n w : ℕ) (parents columns slots : List �
           phases = rw (← h) (eq ∙ cleared-listed (λ m. rowAt t (slotOf leaves t m) .p) (2 * n) qs qs′ hq (written .phases) ∙ ap (λ (k : ℕ). zeroed (2 * k) qs) s);
           vacuum = rw (← h) e;
         }
+
+-- the tables of a flatpack
+pub flat-ready : (leaves : Bool) (n w : ℕ) (es : List ℕ) (fs : List Bool) (ps ls cs ends : List ℕ) → Wired (flat leaves n es fs) n (3 * n) ps ls
+    → ((i : ℕ) → i < n → nth cs i ≡ qubitAt es i) → ((i : ℕ) → i < n → qubitAt es i / 64 < w) → Slots (slotOf leaves (flat leaves n es fs)) n ends
+    → Ready leaves (flat leaves n es fs) n w ps cs ends
+flat-ready leaves n w es fs ps ls cs ends wired copied low slots = record {
+  ups = wired-parents (flat leaves n es fs) n ps ls wired;
+  qubits = record { size = refl; qubits = λ i h. sym (copied i h) };
+  within = λ i h. rw (copied i h) (low i h);
+  ends = slots;
+}

@@ -22,3 +22,4 @@ pub mod AllRows
 pub mod VacuumSteps
 pub mod PlantSteps
 pub mod BuildSteps
+pub mod Verdicts

@@ -55,3 +55,49 @@ pub fn build_rows(
     crate::clear_phases(phases, 2 * n);
     Answer::Refused(Refusal::Vacuum)
 }
+
+// The slot of each row's leaf, in the table that has the slots of the leaves that slots name.
+pub fn leaf_slots(leaves: bool, children: &[usize; 768], n: usize, slots: &mut [usize; 512])
+    requires { ⌜ (n ≤ 256) × AtMost (3 * n) n (nth (now children)) × (length (now slots) ≡ 512) ⌝ }
+    ensures { λ _. ⌜ ((t : Tree) (ps : List ℕ) → Wired t n (3 * n) ps (now (slots .entry)) → Children t n (3 * n) (now (children .entry)) → verdict leaves t ≡ 0 → Slots (slotOf leaves t) n (now (slots .exit))) ⌝ }
+{
+    if !leaves {
+        chains::naive_slots(children, n, slots);
+    }
+}
+
+// Builds a flatpack whose qubits lie in w words: the number of the first test that it fails, or its rows.
+pub fn build_flat(
+    leaves: bool,
+    entries: &[usize],
+    filled: &[bool],
+    n: usize,
+    w: usize,
+    x: &mut [u64],
+    z: &mut [u64],
+    phases: &mut [u8],
+    vacuum: &mut [u64],
+) -> Answer
+    requires { ⌜ (n ≤ 256) × (w ≤ 4) × (0 < n) × (4 * n ≤ length (now entries)) × (3 * n ≤ length (now filled)) × ((i : ℕ) → i < n → qubitAt (now entries) i / 64 < w) × (2 * n * w ≤ length (now x)) × (2 * n * w ≤ length (now z)) × (2 * n ≤ length (now phases)) ⌝ }
+    ensures { λ r. ⌜ TreeBuilt (firstOf (treeChecks leaves (flat leaves n (now (entries .entry)) (now (filled .entry))))) w (rows leaves (flat leaves n (now (entries .entry)) (now (filled .entry)))) (now (x .entry)) (now (z .entry)) (now (phases .entry)) (now (vacuum .entry)) r (now (x .exit)) (now (z .exit)) (now (phases .exit)) (now (vacuum .exit)) ⌝ }
+{
+    let mut parents = [0usize; 256];
+    let mut children = [0usize; 768];
+    let mut slots = [0usize; 512];
+    let number = climbing::check_tree(
+        leaves,
+        entries,
+        filled,
+        n,
+        &mut parents,
+        &mut children,
+        &mut slots,
+    );
+    if number != 0 {
+        return crate::refused(number);
+    }
+    leaf_slots(leaves, &children, n, &mut slots);
+    let mut columns = [0usize; 256];
+    reading::copy_qubits(entries, n, &mut columns);
+    build_rows(&parents, &columns, &slots, n, w, x, z, phases, vacuum)
+}
