@@ -9,15 +9,16 @@ use lib.Seq.{drop-at}
 use Rattle.refusal.specs.declared.Answer.the-variants.{Done, Refused}
 use Rattle.refusal.specs.declared.Refusal.the-variants.{Vacuum}
 use Rattle.algebra.specs.Modes.{vacuumRule}
-use Rattle.dense_block.specs.Words.{zeroed}
+use Rattle.dense_block.specs.Words.{wordsFor, zeroed}
 use Rattle.dense_block.specs.Blocks.{rowsOf, laid, numbersOf, listed}
 use Rattle.dense_block.proofs.Blocks.{row-laid, length-rows, length-laid, length-numbers, length-listed, number-listed}
 use Rattle.dense_block.proofs.Clears.{zeroed-same}
 use Rattle.ternarytree.specs.Trees.{Tree}
 use Rattle.ternarytree.specs.Paths.{rowAt}
 use Rattle.ternarytree.specs.Leaves.{slotOf, rows}
+use Rattle.ternarytree.specs.Named.{Named, namedTree}
 use Rattle.ternarytree.specs.Building.{qubitAt}
-use Rattle.ternarytree.specs.Tables.{nth, AtMost, flat, Wired, Slots, RowsWritten, StoredX, Ready, rowsAnswer, TreeBuilt}
+use Rattle.ternarytree.specs.Tables.{nth, AtMost, flat, Wired, Slots, Planted, RowsWritten, StoredX, Ready, rowsAnswer, TreeBuilt}
 use Rattle.ternarytree.proofs.ClimbSteps.{wired-parents}
 use Rattle.ternarytree.proofs.Bounds.{Within, low-row}
 
@@ -87,5 +88,15 @@ flat-ready leaves n w es fs ps ls cs ends wired copied low slots = record {
   ups = wired-parents (flat leaves n es fs) n ps ls wired;
   qubits = record { size = refl; qubits = λ i h. sym (copied i h) };
   within = λ i h. rw (copied i h) (low i h);
+  ends = slots;
+}
+
+-- and of a named tree
+pub named-ready : (tree : Named) (n w : ℕ) (cs ps ks ends : List ℕ) → w ≡ wordsFor n → Planted (namedTree tree n) n cs ps ks → Slots (slotOf false (namedTree tree n)) n ends
+    → Ready false (namedTree tree n) n w ps cs ends
+named-ready tree n w cs ps ks ends e planted slots = record {
+  ups = planted .ups;
+  qubits = planted .qubits;
+  within = λ i h. omega (arith, planted .qubits .qubits i h, e);
   ends = slots;
 }

@@ -23,3 +23,4 @@ pub mod VacuumSteps
 pub mod PlantSteps
 pub mod BuildSteps
 pub mod Verdicts
+pub mod Answers

@@ -55,7 +55,7 @@ slot-number t k (xLeaf i) h = rw (leaf-number t k (2 * i) h) (omega arith, omega
 slot-number t k (yLeaf i) h = rw (leaf-number t k (2 * i + 1) h) (omega arith, omega arith)
 slot-number t k low h = (omega arith, omega arith)
 
-fault-number : (t : Tree) → firstFault t ≢ 0 → Between (firstFault t)
+pub fault-number : (t : Tree) → firstFault t ≢ 0 → Between (firstFault t)
 unfolding firstFault
 fault-number t = go (leastBelow (3 * t .n) (λ k. ltb 0 (fault t k)))
   where

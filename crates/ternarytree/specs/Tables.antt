@@ -2,7 +2,7 @@
 use Prim.Native.Nat.{ℕ, zero, suc, _*_, _/_, _%_, _^_, _<_, _≤_}
 use mathlib.Core.Path.{_≡_}
 use mathlib.Core.List.{List, [], _∷_}
-use mathlib.Core.Bool.{Bool, cond, not, _&&_}
+use mathlib.Core.Bool.{Bool, cond, not, _&&_, _||_}
 use lib.Dec.{ltb}
 use lib.Bits.{bitXor}
 use lib.ListN.{length, getD, set}
@@ -17,7 +17,7 @@ use Rattle.ternarytree.specs.Trees.{Child, empty, Tree, nodeOf, up, pare
 use Rattle.ternarytree.specs.Paths.{rowAt}
 use Rattle.ternarytree.specs.Leaves.{slotOf}
 use Rattle.ternarytree.specs.Flatpacks.{Slot, blank, number, Flatpack, unnamed, named, flatTree}
-use Rattle.ternarytree.specs.Building.{settled, qubitAt, slotAt}
+use Rattle.ternarytree.specs.Building.{settled, treeChecks, qubitAt, slotAt, reaches}
 
 -- element k of a list, 0 past its end
 abbrev pub nth : List ℕ → ℕ → ℕ
@@ -149,6 +149,10 @@ pub record Ready (leaves : Bool) (t : Tree) (n w : ℕ) (parents columns slots :
 -- the answer to the rows of a tree that passed its tests: 13, or done
 abbrev pub rowsAnswer : Modes → Paper
 rowsAnswer m = firstOf ((not (vacuumRule m 0) gives 13) ∷ [])
+
+-- the answer to a flatpack past 1 and 2
+abbrev pub flatTask : Bool → ℕ → ℕ → List ℕ → List Bool → Paper
+flatTask leaves n q es fs = firstOf ((ltb q n || reaches es n q gives 3) ∷ treeChecks leaves (flat leaves n es fs))
 
 -- what is left of the outputs when the answer r of building the rows m is p
 pub record TreeBuilt (p : Paper) (w : ℕ) (m : Modes) (xs zs ps vs : List ℕ) (r : Answer) (xs′ zs′ ps′ vs′ : List ℕ) : Type 0 where

@@ -14,11 +14,12 @@ ghost use mathlib.Core.Bool.{Bool, false};
 ghost use Prim.Native.Nat.{ℕ, _*_, _/_, _<_, _≤_};
 ghost use lib.ListN.{length};
 ghost use Rattle.refusal.specs.Table.{firstOf};
+ghost use Rattle.dense_block.specs.Words.{wordsFor};
 ghost use Rattle.ternarytree.specs.Trees.{Tree};
 ghost use Rattle.ternarytree.specs.Leaves.{slotOf, rows};
 ghost use Rattle.ternarytree.specs.Named.{namedTree};
 ghost use Rattle.ternarytree.specs.Building.{qubitAt, treeChecks};
-ghost use Rattle.ternarytree.specs.Tables.{nth, AtMost, flat, Children, Wired, Slots, verdict, rowsAnswer, Ready, TreeBuilt};
+ghost use Rattle.ternarytree.specs.Tables.{nth, AtMost, flat, Children, Wired, Slots, verdict, rowsAnswer, flatTask, Ready, TreeBuilt};
 
 // Writes the rows of a tree that passed its tests, from its tables, and the all-zero vacuum. If the rows break the vacuum rule there: 13, and zeros over all.
 pub fn build_rows(
@@ -99,5 +100,49 @@ pub fn build_flat(
     leaf_slots(leaves, &children, n, &mut slots);
     let mut columns = [0usize; 256];
     reading::copy_qubits(entries, n, &mut columns);
+    build_rows(&parents, &columns, &slots, n, w, x, z, phases, vacuum)
+}
+
+// The same after the test of the qubits.
+pub fn build_within(
+    leaves: bool,
+    entries: &[usize],
+    filled: &[bool],
+    n: usize,
+    q: usize,
+    w: usize,
+    x: &mut [u64],
+    z: &mut [u64],
+    phases: &mut [u8],
+    vacuum: &mut [u64],
+) -> Answer
+    requires { ⌜ (n ≤ 256) × (0 < n) × (q ≤ 256) × (w ≡ wordsFor q) × (4 * n ≤ length (now entries)) × (3 * n ≤ length (now filled)) × (2 * n * w ≤ length (now x)) × (2 * n * w ≤ length (now z)) × (2 * n ≤ length (now phases)) ⌝ }
+    ensures { λ r. ⌜ TreeBuilt (flatTask leaves n q (now (entries .entry)) (now (filled .entry))) w (rows leaves (flat leaves n (now (entries .entry)) (now (filled .entry)))) (now (x .entry)) (now (z .entry)) (now (phases .entry)) (now (vacuum .entry)) r (now (x .exit)) (now (z .exit)) (now (phases .exit)) (now (vacuum .exit)) ⌝ }
+{
+    if crate::bad_qubits(entries, n, q) {
+        return Answer::Refused(Refusal::Qubits);
+    }
+    build_flat(leaves, entries, filled, n, w, x, z, phases, vacuum)
+}
+
+// Builds a named tree.
+pub fn build_named(
+    tree: Named,
+    n: usize,
+    w: usize,
+    x: &mut [u64],
+    z: &mut [u64],
+    phases: &mut [u8],
+    vacuum: &mut [u64],
+) -> Answer
+    requires { ⌜ (n ≤ 256) × (0 < n) × (w ≡ wordsFor n) × (2 * n * w ≤ length (now x)) × (2 * n * w ≤ length (now z)) × (2 * n ≤ length (now phases)) ⌝ }
+    ensures { λ r. ⌜ TreeBuilt (firstOf (treeChecks false (namedTree tree n))) w (rows false (namedTree tree n)) (now (x .entry)) (now (z .entry)) (now (phases .entry)) (now (vacuum .entry)) r (now (x .exit)) (now (z .exit)) (now (phases .exit)) (now (vacuum .exit)) ⌝ }
+{
+    let mut columns = [0usize; 256];
+    let mut parents = [0usize; 256];
+    let mut children = [0usize; 768];
+    planting::plant(tree, n, &mut columns, &mut parents, &mut children);
+    let mut slots = [0usize; 512];
+    chains::naive_slots(&children, n, &mut slots);
     build_rows(&parents, &columns, &slots, n, w, x, z, phases, vacuum)
 }
