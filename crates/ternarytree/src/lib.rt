@@ -62,6 +62,16 @@ fn outside(k: usize) -> bool
     256 < k
 }
 
+// Whether one of two numbers is.
+fn either_outside(n: usize, q: usize) -> bool
+    ensures { λ r. ⌜ r ≡ (outside n || outside q) ⌝ }
+{
+    if outside(n) {
+        return true;
+    }
+    outside(q)
+}
+
 // The qubit of entry i; 0 past the end.
 fn qubit_at(entries: &[usize], i: usize) -> usize
     requires { ⌜ i < 256 ⌝ }
@@ -242,4 +252,98 @@ fn from_entries(
         phases,
         vacuum,
     )
+}
+
+// Builds a flatpack with leaves. Entry i, of `modes`, is the numbers 4i (its qubit), 4i + 1, 4i + 2 and 4i + 3 (its X, Y and Z slots) of entries; a slot is empty
+// if its place 3i, 3i + 1 or 3i + 2 of filled is false. Done: the X and Z parts are in the first 2·modes·w words of x and z, w being ceil(qubits / 64), the phases
+// in the first 2·modes of phases, and the first w words of vacuum are zero. Refused: the outputs are as they were, but 13 leaves zeros over them. The first
+// 4·modes·w words of room are zero after every call that got past 1 and 2.
+pub fn from_flatpack(
+    modes: usize,
+    qubits: usize,
+    entries: &[usize],
+    filled: &[bool],
+    x: &mut [u64],
+    z: &mut [u64],
+    phases: &mut [u8],
+    vacuum: &mut [u64],
+    room: &mut [u64],
+) -> Answer
+    ensures { λ r. ⌜ FlatBuilt (given true modes qubits (now (entries .entry)) (now (filled .entry)) (now (x .entry)) (now (z .entry)) (now (phases .entry)) (now (vacuum .entry)) (now (room .entry))) r (now (x .exit)) (now (z .exit)) (now (phases .exit)) (now (vacuum .exit)) (now (room .exit)) ⌝ }
+{
+    from_entries(
+        true,
+        modes,
+        qubits,
+        entries,
+        filled,
+        x,
+        z,
+        phases,
+        vacuum,
+        room,
+    )
+}
+
+// The same, naive: a number that is no entry's qubit is ignored, and the leaves are at the ends of Z chains.
+pub fn from_flatpack_naive(
+    modes: usize,
+    qubits: usize,
+    entries: &[usize],
+    filled: &[bool],
+    x: &mut [u64],
+    z: &mut [u64],
+    phases: &mut [u8],
+    vacuum: &mut [u64],
+    room: &mut [u64],
+) -> Answer
+    ensures { λ r. ⌜ FlatBuilt (given false modes qubits (now (entries .entry)) (now (filled .entry)) (now (x .entry)) (now (z .entry)) (now (phases .entry)) (now (vacuum .entry)) (now (room .entry))) r (now (x .exit)) (now (z .exit)) (now (phases .exit)) (now (vacuum .exit)) (now (room .exit)) ⌝ }
+{
+    from_entries(
+        false,
+        modes,
+        qubits,
+        entries,
+        filled,
+        x,
+        z,
+        phases,
+        vacuum,
+        room,
+    )
+}
+
+// Builds a named tree. Its rows keep `modes` columns however many qubits are asked for, and the lengths count `modes` columns; else as from_flatpack.
+pub fn from_name(
+    tree: Named,
+    modes: usize,
+    qubits: usize,
+    x: &mut [u64],
+    z: &mut [u64],
+    phases: &mut [u8],
+    vacuum: &mut [u64],
+    room: &mut [u64],
+) -> Answer
+    ensures { λ r. ⌜ NamedBuilt (asked tree modes qubits (now (x .entry)) (now (z .entry)) (now (phases .entry)) (now (vacuum .entry)) (now (room .entry))) r (now (x .exit)) (now (z .exit)) (now (phases .exit)) (now (vacuum .exit)) (now (room .exit)) ⌝ }
+{
+    if either_outside(modes, qubits) {
+        return Answer::Refused(Refusal::Size);
+    }
+    let w = dense_block::words_for(modes);
+    if outputs_short(
+        modes,
+        w,
+        x.len(),
+        z.len(),
+        phases.len(),
+        vacuum.len(),
+        room.len(),
+    ) {
+        return Answer::Refused(Refusal::Short);
+    }
+    dense_block::clear(room, 4 * modes * w);
+    if qubits < modes {
+        return Answer::Refused(Refusal::Qubits);
+    }
+    building::build_named(tree, modes, w, x, z, phases, vacuum)
 }
