@@ -24,3 +24,4 @@ pub mod PlantSteps
 pub mod BuildSteps
 pub mod Verdicts
 pub mod Answers
+pub mod Theorems
