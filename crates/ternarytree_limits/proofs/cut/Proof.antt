@@ -76,4 +76,3 @@ cut-spec =
     slice-aggregate-flat-7
     flat-requires
     returns)
-

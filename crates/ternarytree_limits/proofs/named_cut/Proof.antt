@@ -60,4 +60,3 @@ named-cut-spec =
     slice-aggregate-named-5
     named-requires
     returns)
-

@@ -83,4 +83,3 @@ three-spec =
     same-length
     same-length-2
     returns)
-
