@@ -9,7 +9,7 @@ use Rattle.algebra.specs.Modes.{Modes, vacuumRule, empty, paired, d, e, commuti
 use Rattle.algebra.specs.Choices.{combo, dependent}
 use lib.Count.{ones, onesIn}
 use lib.ListN.{replicate}
-use Rattle.ternarytree.specs.Trees.{Tree, parentIn, leafIn, twiceIn, firstFault, faultOf, leafFault, scattered, climb, missing}
+use Rattle.ternarytree.specs.Trees.{parentIn, leafIn, twiceIn, firstFault, faultOf, leafFault, scattered, climb, missing}
 use Rattle.ternarytree.specs.Flatpacks.{childOf, entryIn, past, leafNumbered}
 use Rattle.ternarytree.specs.Building.{Input, given, answer, badSize, tooShort, badQubits, outside, reaches, NamedInput, asked, namedAnswer}
 use Rattle.ternarytree.specs.Paths.{letter, above, rowAt}

@@ -4,9 +4,6 @@ use lib.Seq.{length-take-le}
 use borrow.Author.Needs.{needs}
 use Rattle.ternarytree_limits.proofs.cut.Statement.{statement}
 use Rattle.ternarytree_limits.proofs.cut.Tie as tie
-use Rattle.ternarytree_limits.proofs.cut.Reads as reads
-use Rattle.ternarytree_limits.proofs.cut.Lts as lts
-use Rattle.ternarytree_limits.proofs.flat.Reads as flat-reads
 
 array-share-prefix-entries : tie.Need-array-share-prefix-entries
 array-share-prefix-entries c = search needs

@@ -4,9 +4,6 @@ use lib.Seq.{length-take-le}
 use borrow.Author.Needs.{needs}
 use Rattle.ternarytree_limits.proofs.named_cut.Statement.{statement}
 use Rattle.ternarytree_limits.proofs.named_cut.Tie as tie
-use Rattle.ternarytree_limits.proofs.named_cut.Reads as reads
-use Rattle.ternarytree_limits.proofs.named_cut.Lts as lts
-use Rattle.ternarytree_limits.proofs.named.Reads as named-reads
 
 array-borrow-prefix-x : tie.Need-array-borrow-prefix-x
 array-borrow-prefix-x c = search needs
