@@ -1,3 +1,4 @@
+pub mod Theorems
 pub mod Cuts
 pub mod Numbers
 pub mod Moves
