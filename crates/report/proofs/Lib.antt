@@ -10,3 +10,4 @@ pub mod LineLaws
 pub mod Wholes
 pub mod Examples
 pub mod Written
+pub mod Placing

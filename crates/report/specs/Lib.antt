@@ -1,3 +1,4 @@
 pub mod Text
 pub mod Machine
 pub mod Report
+pub mod Entries

@@ -3,9 +3,9 @@
 //   start, feed, finish    the state before the first byte, after a chunk more, and what the whole text is
 //   read                   the three at once, over a text that is lent whole
 
+use crate::puts::put;
 ghost use mathlib.Core.Path.{_≡_};
 ghost use mathlib.Core.List.{[]};
-ghost use lib.ListN.{set};
 ghost use Rattle.report.specs.Text.{isDigit, asQubit, asSlot};
 ghost use Rattle.report.specs.Machine.{slotNumber, stopped, onLine, after, more, next, tabbed, lineEnded, keptAt, lineKept, step, stepKept, Feeds, Finishes, Reads};
 
@@ -197,15 +197,6 @@ fn tab(s: State) -> State
         return y_ended(n, s.qubit, s.x, f);
     }
     stop(n)
-}
-
-// One number of the table; past the end nothing changes.
-fn put(table: &mut [usize], i: usize, v: usize)
-    ensures { λ _. ⌜ now (table .exit) ≡ set (now (table .entry)) i v ⌝ }
-{
-    if i < table.len() {
-        table[i] = v;
-    }
 }
 
 // Entry n of the table, if it is one of the first 256.
