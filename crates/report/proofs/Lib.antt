@@ -11,3 +11,4 @@ pub mod Wholes
 pub mod Examples
 pub mod Written
 pub mod Placing
+pub mod Sentences

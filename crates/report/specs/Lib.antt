@@ -2,3 +2,4 @@ pub mod Text
 pub mod Machine
 pub mod Report
 pub mod Entries
+pub mod Explain

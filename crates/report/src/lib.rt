@@ -3,8 +3,11 @@
 //   read      a text read chunk by chunk in fixed memory: is it well formed, and what are its entries
 //   flatpack  the entries as numbers, flags and qubits used
 //   write     the lines of a report
+//   explain   what a refusal means, in plain words
 
+pub mod explain;
 pub mod flatpack;
-pub mod read;
+mod pieces; // pieces.rt: numbers and words in a buffer
 mod puts; // puts.rt: stores that change nothing past the end
+pub mod read;
 pub mod write;
