@@ -14,6 +14,6 @@ length-placed f (suc k) d = length-set (placed f k d) k (f k) ∙ length-placed 
 pub placed-next : {A : Type 0} (f : ℕ → A) (d : List A) {e r : List A} (i : ℕ) {v : A} → e ≡ placed f i d → v ≡ f i → r ≡ set e i v → r ≡ placed f (i + 1) d
 placed-next f d i p q h = rw (h, p, q, add-one i)
 
-pub used-next : (table : List ℕ) (i : ℕ) {top q r : ℕ} → top ≡ used table i → q ≡ getD table (4 * i) 0 → r ≡ max top (min q 65535 + 1) → r ≡ used table (i + 1)
+pub used-next : (table : List ℕ) (i : ℕ) {top q r : ℕ} → top ≡ used table i → q ≡ getD table (4 * i) 0 → r ≡ max top (min q 256 + 1) → r ≡ used table (i + 1)
 unfolding used
 used-next table i p q h = rw (h, p, q, add-one i)

@@ -18,7 +18,7 @@ plainAt table k = cond (eqb (k % 4) 0) (getD table k 0) (getD table k 0 - 1)
 unfoldable pub filledAt : List ℕ → ℕ → Bool
 filledAt table k = not (eqb (getD table (4 * (k / 3) + k % 3 + 1) 0) 0)
 
--- the qubits that the first k entries use: the largest + 1, counted as far as 65,536, since a text's numbers are at most 65,535
+-- the qubits that the first k entries use: the largest + 1, counted as far as 257, since more than 256 are refused alike
 unfoldable pub used : List ℕ → ℕ → ℕ
 used table zero = 0
-used table (suc k) = max (used table k) (min (getD table (4 * k) 0) 65535 + 1)
+used table (suc k) = max (used table k) (min (getD table (4 * k) 0) 256 + 1)

@@ -42,11 +42,11 @@ fn least(a: usize, b: usize) -> usize
     if a < b { a } else { b }
 }
 
-// The larger of top and one more than a qubit.
+// The larger of top and one more than a qubit, counted as far as 257.
 fn past(top: usize, qubit: usize) -> usize
-    ensures { λ r. ⌜ r ≡ max top (min qubit 65535 + 1) ⌝ }
+    ensures { λ r. ⌜ r ≡ max top (min qubit 256 + 1) ⌝ }
 {
-    let above = least(qubit, 65535) + 1;
+    let above = least(qubit, 256) + 1;
     if top < above { above } else { top }
 }
 
@@ -74,7 +74,7 @@ pub fn filled_slots(table: &[usize], n: usize, filled: &mut [bool])
     }
 }
 
-// The qubits that the first n entries use, at most 256 of them: the largest + 1, and 0 if there is no entry.
+// The qubits that the first n entries use, at most 256 of them: the largest + 1, counted as far as 257, and 0 if there is no entry.
 pub fn qubits_used(table: &[usize], n: usize) -> usize
     ensures { λ r. ⌜ r ≡ used (now (table .entry)) (min n 256) ⌝ }
 {

@@ -14,7 +14,7 @@ ghost use Prim.Native.Nat.{_+_, _*_, _≤_, _<_};
 ghost use lib.ListN.{length, getD};
 ghost use lib.Seq.{sets};
 ghost use Rattle.dense_block.specs.Words.{value};
-ghost use Rattle.report.specs.Report.{digitsOf, letter, letters, bits, rowOf, rowNumber, headerLine, rowLine, vacuumLine, refusedLine, rowLines, wrote, written, rowIn, roomy, reportLength, reported};
+ghost use Rattle.report.specs.Report.{letter, letters, bits, rowOf, rowNumber, headerLine, rowLine, vacuumLine, refusedLine, rowLines, wrote, written, rowIn, roomy, reportLength, reported};
 
 // The letter of a column, from its bits in the X part and in the Z part.
 fn letter_byte(x: bool, z: bool) -> u8
