@@ -12,3 +12,7 @@ pub mod Examples
 pub mod Written
 pub mod Placing
 pub mod Sentences
+pub mod Replies
+pub mod Packs
+pub mod Outputs
+pub mod OutputExamples

@@ -3,16 +3,21 @@
 -- In plain words: a text that is handed over in chunks, of any number and any lengths, one after another from `start`, is read as if it were lent whole. `finish` answers
 -- what the definition of well-formed text (specs/Text.antt) says of the chunks joined, and the table holds the entries that the definition says: `chunks-read`. How a
 -- text is cut into chunks makes no difference: `chunks-any`. A line that is no entry makes the text malformed wherever it stands, and so does a byte after the last line
--- feed: `bad-line-anywhere`, `bad-end`. Below, a call is its contract: `Feeds`, `Finishes` and `Reads` of specs/Machine.antt.
-use Prim.Native.Nat.{ℕ}
-use mathlib.Core.Path.{_≡_, refl, sym, ap, _∙_}
+-- feed: `bad-line-anywhere`, `bad-end`. The reply to a text so read is its output, byte for byte (specs/Output.antt): the report of its tree, or the number of the first
+-- refusal: `text-answered`. Below, a call is its contract: `Feeds`, `Finishes` and `Reads` of specs/Machine.antt, `Replied` of specs/Output.antt.
+use Prim.Native.Nat.{ℕ, _≤_}
+use mathlib.Core.Path.{_≡_, refl, sym, ap, _∙_, subst}
 use mathlib.Core.List.{List, [], _∷_, _++_, append-nil, append-assoc}
 use mathlib.Core.Bool.{Bool, true, false}
+use lib.ListN.{length, drop}
 use Rattle.report.specs.declared.read.State.{State}
 use Rattle.report.specs.declared.read.Text.{Text}
+use Rattle.report.specs.declared.reply.Reply.{Reply}
 use Rattle.report.specs.Text.{lines, fields, Entry, Line, entry, noEntry, lineOf, Lines, withLine, linesOf, judged, parse}
-use Rattle.report.specs.Machine.{told, kept, after, Feeds, Finishes, Reads}
-use Rattle.report.proofs.Reading.{start-kept, answer-is}
+use Rattle.report.specs.Machine.{Told, told, kept, after, finished, Feeds, Finishes, Reads}
+use Rattle.report.specs.Output.{output, Replied}
+use Rattle.report.proofs.Reading.{start-kept, answer-is, finished-after}
+use Rattle.report.proofs.Outputs.{reply-whole}
 
 -- the chunks of a text, joined
 abbrev pub joined : List (List ℕ) → List ℕ
@@ -35,6 +40,13 @@ pub chunks-read : {us : List (List ℕ)} {s r : State} {d e : List ℕ} {a : Tex
 chunks-read {us} {s} {r} {d} h run f =
     let g = fed-on [] d h (sym (start-kept d)) run in
     record { answer = f .text-answer (joined us) (g .0); entries = g .1 }
+
+-- the reply to what was fed: the text's output at the front of the buffer, and its length
+pub text-answered : {us : List (List ℕ)} {s r : State} {d e : List ℕ} → s ≡ after [] → FedInTurn s d us r e → (out : List ℕ) {a : Reply} {f : List ℕ} → 1024 ≤ length d → 164480 ≤ length out → Replied (finished r) e out a f
+    → (a .length ≡ length (output (joined us))) × (f ≡ output (joined us) ++ drop (length (output (joined us))) out)
+text-answered {us} {s} {r} {d} {e} h run out {a} {f} room wide reply =
+    let g = fed-on [] d h (sym (start-kept d)) run in
+    reply-whole (joined us) d e out (g .1) room wide (subst (λ (t : Told). Replied t e out a f) (ap finished (g .0) ∙ finished-after (joined us)) reply)
 
 -- two ways to cut a text
 pub chunks-any : {us vs : List (List ℕ)} {s r q : State} {d e f : List ℕ} {a b : Text} → joined us ≡ joined vs → s ≡ after []

@@ -3,3 +3,4 @@ pub mod Machine
 pub mod Report
 pub mod Entries
 pub mod Explain
+pub mod Output

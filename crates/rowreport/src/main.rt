@@ -5,14 +5,11 @@ use libc::STDERR_FILENO;
 use libc::STDIN_FILENO;
 use libc::STDOUT_FILENO;
 use refusal::Answer;
-use refusal::Refusal;
 use report::explain;
 use report::explain::Spot;
-use report::flatpack;
 use report::read;
 use report::read::State;
-use report::read::Text;
-use report::write;
+use report::reply;
 
 // What a read of standard input comes to.
 enum Step {
@@ -65,61 +62,26 @@ fn feed_all(table: &mut [usize]) -> Step {
     Step::Failed
 }
 
-// A refusal, found in a slot of a line or in the line; line 0 if it is not known where.
-fn refuse(why: Refusal, line: usize, spot: Spot) {
-    let mut out = [0u8; 256];
-    let k = write::refused_line(why.number(), &mut out);
-    show(STDOUT_FILENO, &out, k);
-    let m = explain::explain(why, line, spot, &mut out);
-    show(STDERR_FILENO, &out, m);
-}
-
-// The report of n modes on q qubits, at most 256 of each.
-fn tell(n: usize, q: usize, x: &[u64], z: &[u64], phases: &[u8], vacuum: &[u64]) {
+// Writes the reply to a text, and says what a refusal means.
+fn answer(s: State, table: &[usize]) {
     let mut out = [0u8; 164480];
-    let k = write::whole(n, q, x, z, phases, vacuum, &mut out);
-    show(STDOUT_FILENO, &out, k);
-}
-
-// The tree of n entries, of which the table has the first 256.
-fn build(n: usize, table: &[usize]) {
-    let mut entries = [0usize; 1024];
-    let mut filled = [false; 768];
-    flatpack::plain_numbers(table, n, &mut entries);
-    flatpack::filled_slots(table, n, &mut filled);
-    let q = flatpack::qubits_used(table, n);
-    let mut x = [0u64; 2048];
-    let mut z = [0u64; 2048];
-    let mut phases = [0u8; 512];
-    let mut vacuum = [0u64; 4];
-    let mut room = [0u64; 4096];
-    let answer = ternarytree::from_flatpack(
-        n,
-        q,
-        &entries,
-        &filled,
-        &mut x,
-        &mut z,
-        &mut phases,
-        &mut vacuum,
-        &mut room,
-    );
-    match answer {
-        Answer::Done => tell(n, q, &x, &z, &phases, &vacuum),
-        Answer::Refused(why) => refuse(why, 0, Spot::Line),
+    let r = reply::respond(s, table, &mut out);
+    show(STDOUT_FILENO, &out, r.length);
+    let a = r.answer;
+    match a {
+        Answer::Done => {}
+        Answer::Refused(why) => {
+            let k = explain::explain(why, r.line, Spot::Line, &mut out);
+            show(STDERR_FILENO, &out, k);
+        }
     }
 }
 
 fn main() {
     let mut table = [0usize; 1024];
     match feed_all(&mut table) {
-        Step::End(s) => match read::finish(s) {
-            Text::Entries(n) => build(n, &table),
-            Text::Malformed(line) => refuse(Refusal::Malformed, line, Spot::Line),
-        },
-        Step::More(_) => {
-            return;
-        }
+        Step::End(s) => answer(s, &table),
+        Step::More(_) => {}
         Step::Failed => {
             io::write_all(
                 STDERR_FILENO,
