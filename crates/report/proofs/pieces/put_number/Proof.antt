@@ -1,11 +1,11 @@
--- `report::write::put_number` meets its contract.
+-- `report::pieces::put_number` meets its contract.
 use mathlib.Core.Path.{refl}
 use mathlib.Core.List.{[], _∷_}
 use Rattle.report.specs.Report.{digitsOf}
 use Rattle.report.proofs.Stores.{join}
 use borrow.Author.Needs.{needs}
-use Rattle.report.proofs.write.put_number.Statement.{statement}
-use Rattle.report.proofs.write.put_number.Tie as tie
+use Rattle.report.proofs.pieces.put_number.Statement.{statement}
+use Rattle.report.proofs.pieces.put_number.Tie as tie
 
 put-digits-requires : tie.Need-put-digits-requires
 put-digits-requires c κs = search needs

@@ -1,4 +1,4 @@
--- `report::write::put_digits` meets its contract: the digits of the tenth, and then the last one.
+-- `report::pieces::put_digits` meets its contract: the digits of the tenth, and then the last one.
 use borrow.Author.Needs.{needs}
 use Prim.Native.Nat.{ℕ, _+_, _/_, _%_, _<_}
 use native.Mathlib.Omega.{arith}
@@ -12,11 +12,11 @@ use Rattle.report.proofs.Stores.{join}
 use Prim.Native.Nat.{ℕ, _<_}
 use borrow.Fn.Kinds.{In}
 use borrow.Fn.PlainCycle.{Measures, is, falls, and}
-use Rattle.report.proofs.write.put_digits.Reads as put-digits
-use Rattle.report.proofs.write.put_digits.Kinds as put-digits-kinds
-use Rattle.report.proofs.write.+put_digits.Lts-put_digits as put-digits-lts
-use Rattle.report.proofs.write.+put_digits.{statement}
-use Rattle.report.proofs.write.+put_digits.Tie.{close}
+use Rattle.report.proofs.pieces.put_digits.Reads as put-digits
+use Rattle.report.proofs.pieces.put_digits.Kinds as put-digits-kinds
+use Rattle.report.proofs.pieces.+put_digits.Lts-put_digits as put-digits-lts
+use Rattle.report.proofs.pieces.+put_digits.{statement}
+use Rattle.report.proofs.pieces.+put_digits.Tie.{close}
 
 abbrev μ-put-digits : Measures 1 put-digits-kinds.ps ℕ
 μ-put-digits κs a = a .1 .1 .0

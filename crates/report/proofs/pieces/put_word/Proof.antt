@@ -1,4 +1,4 @@
--- `report::write::put_word` meets its contract: after i turns the first i bytes are stored.
+-- `report::pieces::put_word` meets its contract: after i turns the first i bytes are stored.
 use Prim.Native.Nat.{_-_, _≤_}
 use native.Mathlib.Omega.{arith}
 use mathlib.Core.Path.{_≡_, ap, _∙_}
@@ -6,8 +6,8 @@ use lib.ListN.{length, take, length-set}
 use lib.Seq.{take-all, sets}
 use Rattle.report.proofs.Stores.{word-next, ending}
 use borrow.Author.Needs.{needs}
-use Rattle.report.proofs.write.put_word.Statement.{statement}
-use Rattle.report.proofs.write.put_word.Tie as tie
+use Rattle.report.proofs.pieces.put_word.Statement.{statement}
+use Rattle.report.proofs.pieces.put_word.Tie as tie
 
 abbrev Inv-loop : tie.InvT-loop
 Inv-loop out₀ at word end i₀ out i = (i ≤ length word) × (length out ≡ length out₀) × (out ≡ sets out₀ at (take i word))

@@ -1,9 +1,9 @@
--- `report::read::put` meets its contract.
+-- `report::puts::put` meets its contract.
 use mathlib.Core.Path.{sym}
 use lib.Seq.{set-out}
 use borrow.Author.Needs.{needs}
-use Rattle.report.proofs.read.put.Statement.{statement}
-use Rattle.report.proofs.read.put.Tie as tie
+use Rattle.report.proofs.puts.put.Statement.{statement}
+use Rattle.report.proofs.puts.put.Tie as tie
 
 mul-table : tie.Need-mul-table
 mul-table c = search needs

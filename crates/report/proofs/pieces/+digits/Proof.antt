@@ -1,4 +1,4 @@
--- `report::write::digits` meets its contract: a number below 10 has one digit, and any other one more than its tenth.
+-- `report::pieces::digits` meets its contract: a number below 10 has one digit, and any other one more than its tenth.
 use Prim.Native.Nat.{ℕ, _/_, _<_}
 use native.Mathlib.Omega.{arith}
 use mathlib.Core.Path.{sym, ap}
@@ -7,11 +7,11 @@ use Rattle.report.proofs.Digits.{digits-small, length-large, digits-wor
 use Prim.Native.Nat.{ℕ, _<_}
 use borrow.Fn.Kinds.{In}
 use borrow.Fn.PlainCycle.{Measures, is, falls, and}
-use Rattle.report.proofs.write.digits.Reads as digits
-use Rattle.report.proofs.write.digits.Kinds as digits-kinds
-use Rattle.report.proofs.write.+digits.Lts-digits as digits-lts
-use Rattle.report.proofs.write.+digits.{statement}
-use Rattle.report.proofs.write.+digits.Tie.{close}
+use Rattle.report.proofs.pieces.digits.Reads as digits
+use Rattle.report.proofs.pieces.digits.Kinds as digits-kinds
+use Rattle.report.proofs.pieces.+digits.Lts-digits as digits-lts
+use Rattle.report.proofs.pieces.+digits.{statement}
+use Rattle.report.proofs.pieces.+digits.Tie.{close}
 
 abbrev μ-digits : Measures 0 digits-kinds.ps ℕ
 μ-digits κs a = a .0
