@@ -145,7 +145,7 @@ pub fn place_leaf(m: usize, k: usize, n: usize, slots: &mut [usize; 512]) -> usi
     ensures { λ r. ⌜ (length (now (slots .exit)) ≡ 512) × ((t : Tree) → t .n ≡ n → rowOf (t .child k) ≡ found m → Holds (2 * n) (leafIn t k) (now (slots .entry)) → (r ≡ leafFault t k m) × (r ≡ 0 → Holds (2 * n) (leafIn t (k + 1)) (now (slots .exit)))) ⌝ }
 {
     if slots[m] != 0 {
-        return 9;
+        return 9; // used twice
     }
     slots[m] = k + 1;
     0
@@ -193,7 +193,7 @@ pub fn wire(
     slots: &mut [usize; 512],
 ) -> usize
     requires { ⌜ (n ≤ 256) × (4 * n ≤ length (now entries)) × (3 * n ≤ length (now filled)) × AtMost n 255 (qubitAt (now entries)) × Blank 256 (now parents) × (length (now parents) ≡ 256) × (length (now children) ≡ 768) × Blank 512 (now slots) × (length (now slots) ≡ 512) ⌝ }
-    ensures { λ r. ⌜ (r ≡ slotVerdict (flat leaves n (now (entries .entry)) (now (filled .entry)))) × (r ≡ 0 → Wired (flat leaves n (now (entries .entry)) (now (filled .entry))) n (3 * n) (now (parents .exit)) (now (slots .exit)) × Children (flat leaves n (now (entries .entry)) (now (filled .entry))) n (3 * n) (now (children .exit))) ⌝ }
+    ensures { λ r. ⌜ (r ≡ slotVerdict (flat leaves n (now (entries .entry)) (now (filled .entry)))) × (r ≡ 0 → Wired (flat leaves n (now (entries .entry)) (now (filled .entry))) n (3 * n) (now (parents .exit)) (now (slots .exit)) × Children (flat leaves n (now (entries .entry)) (now (filled .entry))) n (3 * n) (now (children .exit)) × (length (now (slots .exit)) ≡ 512)) ⌝ }
 {
     let mut table = [0usize; 256];
     if enter(entries, n, &mut table) {
