@@ -18,12 +18,12 @@ use Rattle.dense_block.specs.Words.{strays}
 use Rattle.pauli.specs.declared.Marked.{Marked}
 use Rattle.pauli.specs.declared.Marked.the-variants.{Imag}
 use Rattle.pauli.specs.Phases.{letterPower}
-use Rattle.majorana.specs.declared.RealMultiplied.the-variants.{Done}
+use Rattle.products.specs.declared.RealMultiplied.the-variants.{Done}
 use Rattle.majorana.specs.Sets.{Set, given, badSize, badRowAt, badRows}
 use Rattle.majorana.specs.Checks.{vacuumBad, rowsShort, rowsChecked}
 use Rattle.majorana.specs.Vacuums.{vacuum, solveShort, solved, Solves}
 use Rattle.majorana.specs.Codes.{encoded, encodeShort, encodeBad, encodeRefused, Encodes, decoded, decodeShort, decodeBad, decodeRefused, Decodes}
-use Rattle.majorana.specs.Products.{productOf, productSize, productShort, someHigh, productBad, productRefused, RealMultiplies}
+use Rattle.products.specs.Products.{productOf, productSize, productShort, someHigh, productBad, productRefused, RealMultiplies}
 use Rattle.majorana.specs.declared.Encoded.the-variants.{Done as Made}
 use Rattle.refusal.specs.declared.Answer.the-variants.{Done as Fine, Refused}
 use Rattle.refusal.specs.declared.Refusal.the-variants.{NoVacuum, Undecodable}

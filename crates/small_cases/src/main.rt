@@ -2,8 +2,8 @@
 // of them that are proved, over the definitions that the contracts cite. Bits are written as numbers, column 0 lowest.
 
 use majorana::Encoded;
-use majorana::RealMultiplied;
 use pauli::Marked;
+use products::RealMultiplied;
 use refusal::Answer;
 use refusal::Refusal;
 use ternarytree::Named;
@@ -233,7 +233,7 @@ fn product(a: usize, b: usize) {
     let numbers = [a, b];
     let mut ox = [9u64; 1];
     let mut oz = [9u64; 1];
-    match majorana::product_real(2, 2, &x, &z, &phases, &numbers, 2.0, &mut ox, &mut oz) {
+    match products::product_real(2, 2, &x, &z, &phases, &numbers, 2.0, &mut ox, &mut oz) {
         RealMultiplied::Done(f, m) => {
             head(b"product from row", a, 0);
             text(b", p x z");

@@ -1,9 +1,9 @@
 // Runs the row check, vacuum solving, `new` and the products at the limits of what they take, and writes a line for each call: the number handed back, the pair that 10
 // carries, a product's phase, and every word of the buffers, which held 7 before. Jordan-Wigner on two modes needs one word of a vacuum, 8 of room, and 4 to solve in.
 
-use majorana::Multiplied;
-use majorana::RealMultiplied;
 use pauli::Coefficient;
+use products::Multiplied;
+use products::RealMultiplied;
 use refusal::Answer;
 use refusal::Refusal;
 
@@ -231,7 +231,7 @@ fn real(
 ) {
     let x = [1u64, 1, 2, 2];
     let z = [0u64, 1, 1, 3];
-    match majorana::product_real(modes, qubits, &x, &z, phases, numbers, c, ox, oz) {
+    match products::product_real(modes, qubits, &x, &z, phases, numbers, c, ox, oz) {
         RealMultiplied::Done(f, _) => {
             head(b"real product", case, 0);
             io::write_all(1, b", phase");
@@ -255,7 +255,7 @@ fn complex(
     let x = [1u64, 1, 2, 2];
     let z = [0u64, 1, 1, 3];
     let both = Coefficient { re: 1.0, im: c };
-    match majorana::product(modes, qubits, &x, &z, phases, numbers, both, ox, oz) {
+    match products::product(modes, qubits, &x, &z, phases, numbers, both, ox, oz) {
         Multiplied::Done(f, _) => {
             head(b"complex product", case, 0);
             io::write_all(1, b", phase");
