@@ -58,4 +58,3 @@ feed-chain-spec =
     loop-again
     same-length
     returns-2)
-
