@@ -4,3 +4,4 @@ pub mod Report
 pub mod Entries
 pub mod Explain
 pub mod Output
+pub mod Located

@@ -6,7 +6,7 @@ use libc::STDIN_FILENO;
 use libc::STDOUT_FILENO;
 use refusal::Answer;
 use report::explain;
-use report::explain::Spot;
+use report::locate;
 use report::read;
 use report::read::State;
 use report::reply;
@@ -71,7 +71,8 @@ fn answer(s: State, table: &[usize]) {
     match a {
         Answer::Done => {}
         Answer::Refused(why) => {
-            let k = explain::explain(why, r.line, Spot::Line, &mut out);
+            let site = locate::locate(s, table);
+            let k = explain::explain(why, site.line, site.spot, &mut out);
             show(STDERR_FILENO, &out, k);
         }
     }
