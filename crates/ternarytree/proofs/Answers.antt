@@ -6,19 +6,21 @@ use mathlib.Core.Bool.{Bool, true, false, _||_}
 use mathlib.Core.List.{List, [], _∷_}
 use borrow.Author.Tests.{ltb-true, ltb-false, leb-false, eqb-false, ne-eqb}
 use lib.Dec.{eqb, leb, ltb}
+use lib.ListN.{length}
 use Rattle.refusal.specs.declared.Answer.{Answer}
 use Rattle.refusal.specs.declared.Answer.the-variants.{Refused}
 use Rattle.refusal.specs.declared.Refusal.the-variants.{Size, Short, Qubits}
 use Rattle.refusal.specs.Search.{pair, noPair}
-use Rattle.refusal.specs.Table.{Rule, _gives_, _names_, firstOf, short, pastTwo}
+use Rattle.refusal.specs.Table.{Rule, _gives_, _names_, firstOf, Lent, _of_, short, pastTwo}
 use Rattle.refusal.proofs.Bools.{or-left, or-right}
+use Rattle.refusal.proofs.Rooms.{hold}
 use Rattle.refusal.proofs.Searches.{none-at}
 use Rattle.dense_block.specs.Words.{wordsFor, zeroed}
 use Rattle.ternarytree.specs.Trees.{Tree, firstFault}
 use Rattle.ternarytree.specs.Leaves.{rows}
 use Rattle.ternarytree.specs.Named.{namedTree}
-use Rattle.ternarytree.specs.Building.{needed, treeChecks, outside, Input, qubitAt, treeOf, reaches, badSize, tooShort, badQubits, answer, FlatBuilt, NamedInput, namedAnswer, NamedBuilt}
-use Rattle.ternarytree.specs.Tables.{flat, flatTask, TreeBuilt}
+use Rattle.ternarytree.specs.Building.{needed, treeChecks, outside, Input, qubitAt, treeOf, reaches, unreadable, badSize, tooShort, badQubits, answer, FlatBuilt, NamedInput, namedAnswer, NamedBuilt}
+use Rattle.ternarytree.specs.Tables.{AtMost, flat, flatTask, TreeBuilt}
 use Rattle.ternarytree.proofs.Verdicts.{fault-number}
 
 -- ---- sizes
@@ -35,6 +37,15 @@ unfolding reaches
 qubits-lie es n q w e h i l =
     let low = leb-false q (qubitAt es i) (none-at n (λ k. leb q (qubitAt es k)) (or-right (ltb q n) _ h) i l) in
     omega (arith, e)
+
+-- slots that can be read
+pub readable : (n : ℕ) (es : List ℕ) (fs : List Bool) → unreadable n es fs ≡ false → (n ≤ 256) × (4 * n ≤ length es) × (3 * n ≤ length fs) × AtMost n 255 (qubitAt es)
+unfolding unreadable reaches
+readable n es fs h =
+    let lent : List Lent = (4 * n of length es) ∷ (3 * n of length fs) ∷ [] in
+    let r = or-right (outside n) _ h in
+    let l = hold lent (or-left (short lent) _ r) in
+    (inside n (or-left (outside n) _ h) .1, l .0, l .1 .0, λ i g. let low = leb-false 256 (qubitAt es i) (none-at n (λ k. leb 256 (qubitAt es k)) (or-right (short lent) _ r) i g) in omega arith)
 
 -- ---- 3
 

@@ -3,7 +3,7 @@ use Prim.Native.Nat.{ℕ, zero, suc, _*_}
 use mathlib.Core.Path.{_≡_, refl}
 use mathlib.Core.List.{List, [], _∷_, _++_}
 use mathlib.Core.Bool.{Bool, true, false}
-use Rattle.refusal.specs.Search.{someBelow, allBelow, leastBelow, firstPair}
+use Rattle.refusal.specs.Search.{someBelow, allBelow, Least, found, none, leastBelow, firstPair}
 use Rattle.algebra.specs.Rows.{Row, bit, clash, dot, common}
 use Rattle.algebra.specs.Modes.{Modes, vacuumRule, empty, paired, d, e, commutingPair}
 use Rattle.algebra.specs.Choices.{combo, dependent}
@@ -11,7 +11,7 @@ use lib.Count.{ones, onesIn}
 use lib.ListN.{replicate}
 use Rattle.ternarytree.specs.Trees.{parentIn, leafIn, twiceIn, firstFault, faultOf, leafFault, scattered, climb, missing}
 use Rattle.ternarytree.specs.Flatpacks.{childOf, entryIn, past, leafNumbered}
-use Rattle.ternarytree.specs.Building.{Input, given, answer, badSize, tooShort, badQubits, outside, reaches, NamedInput, asked, namedAnswer}
+use Rattle.ternarytree.specs.Building.{Input, given, answer, badSize, tooShort, badQubits, outside, reaches, unreadable, faultSlot, faultPlace, NamedInput, asked, namedAnswer}
 use Rattle.ternarytree.specs.Paths.{letter, above, rowAt}
 use Rattle.ternarytree.specs.Leaves.{namedSlot, zEnd, chainEnd, slotOf, rows}
 use Rattle.ternarytree.specs.Named.{Named, jordanWigner, parity, bravyiKitaev, jkmn, under, namedTree}
@@ -127,6 +127,21 @@ naive-cases : numbers (
     ≡ 0 ∷ 5 ∷ 6 ∷ 7 ∷ 8 ∷ []
 unfolding answer badSize tooShort badQubits outside reaches someBelow allBelow leastBelow firstPair twiceIn firstFault faultOf leafFault childOf entryIn past leafNumbered parentIn leafIn scattered climb missing namedSlot slotOf zEnd chainEnd rowAt letter above vacuumRule empty paired d e commutingPair clash dot common ones onesIn bit combo dependent
 naive-cases = refl
+
+-- the first slot at fault of two entries, whose last slot is empty
+abbrev place : List ℕ → Least
+place es = faultPlace true 2 es (t ∷ t ∷ t ∷ t ∷ t ∷ f ∷ [])
+
+-- a misnumbered leaf in slot 4, the Y slot of entry 1; no fault; the same leaf, but a qubit has two entries; a qubit above 255; entries too short
+places : place (0 ∷ 2 ∷ 3 ∷ 1 ∷ 1 ∷ 4 ∷ 9 ∷ 0 ∷ [])
+    ∷ place (0 ∷ 2 ∷ 3 ∷ 1 ∷ 1 ∷ 4 ∷ 5 ∷ 0 ∷ [])
+    ∷ place (1 ∷ 2 ∷ 3 ∷ 1 ∷ 1 ∷ 4 ∷ 9 ∷ 0 ∷ [])
+    ∷ place (256 ∷ 2 ∷ 3 ∷ 1 ∷ 1 ∷ 4 ∷ 9 ∷ 0 ∷ [])
+    ∷ place (0 ∷ 2 ∷ 3 ∷ 1 ∷ 1 ∷ 4 ∷ 9 ∷ [])
+    ∷ []
+    ≡ found 4 ∷ none ∷ none ∷ none ∷ none ∷ []
+unfolding faultPlace unreadable faultSlot outside reaches someBelow leastBelow twiceIn faultOf leafFault childOf entryIn past leafNumbered parentIn leafIn
+places = refl
 
 -- named trees: done, 1 by modes and by qubits, 2, 3
 abbrev named : ℕ → ℕ → Named → NamedInput

@@ -9,11 +9,11 @@ use borrow.Author.Count.{below-more}
 use borrow.Author.Tests.{lt-ltb}
 use lib.Dec.{ltb}
 use lib.ListN.{length, set, length-set}
-use Rattle.refusal.specs.Search.{leastBelow}
+use Rattle.refusal.specs.Search.{found, none, leastBelow}
 use Rattle.refusal.proofs.Searches.{least-of, least-none}
 use Rattle.ternarytree.specs.Trees.{Child, nodeOf, Tree, parentIn, leafIn, twiceIn, faultOf, fault, firstFault}
 use Rattle.ternarytree.specs.Flatpacks.{Slot, entryIn, past}
-use Rattle.ternarytree.specs.Building.{qubitAt, slotAt}
+use Rattle.ternarytree.specs.Building.{qubitAt, slotAt, faultSlot}
 use Rattle.ternarytree.specs.Tables.{code, Holds, AtMost, Blank, childIn, flat, NodeBelow, Children, Wired, slotVerdict}
 use Rattle.ternarytree.proofs.Codes.{in-order}
 use Rattle.ternarytree.proofs.EntrySteps.{child-is}
@@ -23,13 +23,11 @@ use Rattle.ternarytree.proofs.Flats.{flatpack-closed}
 -- ---- faults
 
 module _ (t : Tree) (k : ℕ) (before : (j : ℕ) → j < k → fault t j ≡ 0) where
-  fault-at : k < 3 * t .n → fault t k ≢ 0 → firstFault t ≡ fault t k
-  unfolding firstFault
-  fault-at h ne = rw (least-of (3 * t .n) (λ k. ltb 0 (fault t k)) k h (lt-ltb 0 (fault t k) (omega (arith, ne))) (λ j l. rw (before j l)))
+  fault-at : k < 3 * t .n → fault t k ≢ 0 → leastBelow (3 * t .n) (λ k. ltb 0 (fault t k)) ≡ found k
+  fault-at h ne = least-of (3 * t .n) (λ k. ltb 0 (fault t k)) k h (lt-ltb 0 (fault t k) (omega (arith, ne))) (λ j l. rw (before j l))
 
-  no-faults : k ≡ 3 * t .n → firstFault t ≡ 0
-  unfolding firstFault
-  no-faults e = rw (least-none (3 * t .n) (λ k. ltb 0 (fault t k)) (λ j l. rw (before j (omega arith))))
+  no-faults : k ≡ 3 * t .n → leastBelow (3 * t .n) (λ k. ltb 0 (fault t k)) ≡ none
+  no-faults e = least-none (3 * t .n) (λ k. ltb 0 (fault t k)) (λ j l. rw (before j (omega arith)))
 
 -- ---- at the start
 
@@ -61,11 +59,12 @@ module _ (leaves : Bool) (es : List ℕ) (fs : List Bool) (n : ℕ) (table : Lis
   unfolding Closed
   wiring-below o e j h = flatpack-closed leaves (record { n = n; qubit = qubitAt es; slot = slotAt es fs }) k j (ap nodeOf e ∙ h)
 
-  pub wiring-fault : (o : Child) (r : ℕ) → k < 3 * n → flat leaves n es fs .child k ≡ o → r ≡ faultOf (flat leaves n es fs) k o → r ≢ 0 → r ≡ slotVerdict (flat leaves n es fs)
-  unfolding slotVerdict
+  pub wiring-fault : (o : Child) (r : ℕ) → k < 3 * n → flat leaves n es fs .child k ≡ o → r ≡ faultOf (flat leaves n es fs) k o → r ≢ 0 → (r ≡ slotVerdict (flat leaves n es fs)) × (found k ≡ faultSlot (flat leaves n es fs))
+  unfolding slotVerdict firstFault faultSlot
   wiring-fault o r h e er ne =
       let same : r ≡ fault (flat leaves n es fs) k = er ∙ ap (faultOf (flat leaves n es fs) k) (sym e) in
-      rw (w .once) (same ∙ sym (fault-at (flat leaves n es fs) k (w .before) h (λ z. ne (same ∙ z))))
+      let at = fault-at (flat leaves n es fs) k (w .before) h (λ z. ne (same ∙ z)) in
+      (rw (w .once, at) same, rw (w .once, at))
 
   pub wiring-next : (o : Child) (r a : ℕ) (ps′ ls′ : List ℕ) → n ≤ 256 → k < 3 * n → flat leaves n es fs .child k ≡ o → a ≡ code (nodeOf o) → r ≡ faultOf (flat leaves n es fs) k o → r ≡ 0
       → length ps′ ≡ 256 → length ls′ ≡ 512 → Wired (flat leaves n es fs) n (k + 1) ps′ ls′ → Wiring leaves es fs n table top ps′ (set cs k a) ls′ (k + 1)
@@ -83,8 +82,9 @@ module _ (leaves : Bool) (es : List ℕ) (fs : List Bool) (n : ℕ) (table : Lis
     before = below-more _ k (w .before) (ap (faultOf (flat leaves n es fs) k) e ∙ sym er ∙ z);
   }
 
-  pub wiring-end : 3 * n ≤ k → (0 ≡ slotVerdict (flat leaves n es fs)) × (_≡_ {A = ℕ} 0 0 → Wired (flat leaves n es fs) n (3 * n) ps ls × Children (flat leaves n es fs) n (3 * n) cs × (length ls ≡ 512))
-  unfolding slotVerdict
+  pub wiring-end : 3 * n ≤ k → (0 ≡ slotVerdict (flat leaves n es fs)) × (_≡_ {A = ℕ} 0 0 → Wired (flat leaves n es fs) n (3 * n) ps ls × Children (flat leaves n es fs) n (3 * n) cs × (length ls ≡ 512)) × (none ≡ faultSlot (flat leaves n es fs))
+  unfolding slotVerdict firstFault faultSlot
   wiring-end h =
       let e : k ≡ 3 * n = omega (arith, w .some-left) in
-      (rw (w .once) (sym (no-faults (flat leaves n es fs) k (w .before) e)), λ _. (rw e at (w .wired), record { size = refl; nodes = rw e at (w .nodes) }, w .ls-length))
+      let clean = no-faults (flat leaves n es fs) k (w .before) e in
+      (rw (w .once, clean), λ _. (rw e at (w .wired), record { size = refl; nodes = rw e at (w .nodes) }, w .ls-length), rw (w .once, clean))

@@ -7,13 +7,15 @@ use lib.Dec.{eqb, leb, ltb}
 use lib.ListN.{length, getD}
 use Rattle.refusal.specs.declared.Answer.{Answer}
 use Rattle.refusal.specs.Numbers.{Paper, answered}
-use Rattle.refusal.specs.Search.{someBelow}
+use Rattle.refusal.specs.Search.{someBelow, Least, found, none, leastBelow}
 use Rattle.refusal.specs.Table.{Rule, _gives_, _names_, firstOf, Lent, _of_, short, onDone, pastTwo}
 use Rattle.algebra.specs.Modes.{Modes, vacuumRule, commutingPair}
 use Rattle.algebra.specs.Choices.{dependent}
 use Rattle.dense_block.specs.Words.{wordsFor, zeroed}
 use Rattle.dense_block.specs.Blocks.{laid, listed}
-use Rattle.ternarytree.specs.Trees.{Tree, twice, firstFault, scattered, missing}
+use Rattle.ternarytree.specs.declared.Place.{Place}
+use Rattle.ternarytree.specs.declared.Place.the-variants.{Nowhere as nowhere, Slot as slot}
+use Rattle.ternarytree.specs.Trees.{Tree, twice, fault, firstFault, scattered, missing}
 use Rattle.ternarytree.specs.Leaves.{rows}
 use Rattle.ternarytree.specs.Flatpacks.{Slot, blank, number, Flatpack, flatTree}
 use Rattle.ternarytree.specs.Named.{Named, namedTree}
@@ -113,6 +115,24 @@ answer i = firstOf ((badSize i gives 1) ∷ (tooShort i gives 2) ∷ (badQubits 
 -- what the answer r and the outputs of building a flatpack are
 abbrev pub FlatBuilt : Input → Answer → List ℕ → List ℕ → List ℕ → List ℕ → List ℕ → Type 0
 FlatBuilt i r xs zs ps vs room = Built (answer i) (wordsFor (i .q)) (rows (i .leaves) (treeOf i)) (i .out) r xs zs ps vs room
+
+-- ---- the first fault of a flatpack's slots
+
+abbrev pub placed : Place → Least
+placed nowhere = none
+placed (slot k) = found k
+
+-- entry by entry, X, Y, Z: the first slot that has a fault. 7 comes before the slots, and is no slot's
+unfoldable pub faultSlot : Tree → Least
+faultSlot t = cond (twice t) none (leastBelow (3 * t .n) (λ k. ltb 0 (fault t k)))
+
+-- modes 0 or above 256, slices too short, a qubit above 255
+unfoldable pub unreadable : ℕ → List ℕ → List Bool → Bool
+unreadable n es fs = outside n || (short ((4 * n of length es) ∷ (3 * n of length fs) ∷ []) || reaches es n 256)
+
+-- of n entries, with leaves or naive: none too if the slots cannot be read
+unfoldable pub faultPlace : Bool → ℕ → List ℕ → List Bool → Least
+faultPlace leaves n es fs = cond (unreadable n es fs) none (faultSlot (flatTree leaves (record { n = n; qubit = qubitAt es; slot = slotAt es fs })))
 
 -- ---- named trees
 

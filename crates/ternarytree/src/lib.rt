@@ -2,6 +2,7 @@
 //
 //   from_flatpack         a flatpack whose numbers name nodes and leaves
 //   from_flatpack_naive   a flatpack of nodes, with the leaves at the ends of Z chains
+//   find_fault            the first slot of a flatpack that is at fault
 //   from_name             Jordan-Wigner, parity, Bravyi-Kitaev or JKMN
 
 mod building; // building.rt: from tables to rows, and from flatpacks and names to tables
@@ -22,7 +23,7 @@ ghost use lib.ListN.{length};
 ghost use Rattle.refusal.specs.Numbers.{bare, answered};
 ghost use Rattle.refusal.specs.Table.{_of_, short};
 ghost use Rattle.dense_block.specs.Words.{zeroed};
-ghost use Rattle.ternarytree.specs.Building.{given, qubitAt, outside, reaches, FlatBuilt, asked, NamedBuilt};
+ghost use Rattle.ternarytree.specs.Building.{given, qubitAt, outside, reaches, unreadable, FlatBuilt, placed, faultPlace, asked, NamedBuilt};
 
 // What a slot of a tree holds.
 pub enum Child {
@@ -38,6 +39,12 @@ pub enum Child {
 pub enum Slot {
     Blank,
     Number(usize),
+}
+
+// A slot of a flatpack, by its number: slot 3i + l is the X, Y or Z slot of entry i, for l = 0, 1 or 2.
+pub enum Place {
+    Nowhere,
+    Slot(usize),
 }
 
 // The named trees.
@@ -307,6 +314,44 @@ pub fn from_flatpack_naive(
         vacuum,
         room,
     )
+}
+
+// Whether the slots of n entries cannot be read: n is 0 or above 256, a slice is too short, or a qubit is above 255.
+fn unreadable(n: usize, entries: &[usize], filled: &[bool]) -> bool
+    ensures { λ r. ⌜ r ≡ unreadable n (now (entries .entry)) (now (filled .entry)) ⌝ }
+{
+    if outside(n) {
+        return true;
+    }
+    if entries.len() < 4 * n {
+        return true;
+    }
+    if filled.len() < 3 * n {
+        return true;
+    }
+    reaches(entries, n, 256)
+}
+
+// The first slot of a flatpack that is at fault (4, 5, 6 or 9), with leaves or naive; entries and filled are as from_flatpack takes them. Nowhere if no slot is, if
+// a qubit has two entries, or if the slots cannot be read.
+pub fn find_fault(leaves: bool, modes: usize, entries: &[usize], filled: &[bool]) -> Place
+    ensures { λ r. ⌜ placed r ≡ faultPlace leaves modes (now (entries .entry)) (now (filled .entry)) ⌝ }
+{
+    if unreadable(modes, entries, filled) {
+        return Place::Nowhere;
+    }
+    let mut parents = [0usize; 256];
+    let mut children = [0usize; 768];
+    let mut slots = [0usize; 512];
+    reading::wire(
+        leaves,
+        entries,
+        filled,
+        modes,
+        &mut parents,
+        &mut children,
+        &mut slots,
+    ).place
 }
 
 // Builds a named tree. Its rows keep `modes` columns however many qubits are asked for, and the lengths count `modes` columns; else as from_flatpack.

@@ -1,6 +1,7 @@
 // The entries and slots of a flatpack, into tables. A table has 0 for nothing, else one more than the number that it holds.
 
 use crate::Child;
+use crate::Place;
 use crate::Slot;
 ghost use mathlib.Core.Path.{_≡_};
 ghost use mathlib.Core.Bool.{false};
@@ -9,7 +10,7 @@ ghost use lib.ListN.{length};
 ghost use Rattle.ternarytree.specs.Trees.{Tree, node, nodeOf, rowOf, parentIn, leafIn, twiceIn, leafFault, faultOf};
 ghost use Rattle.refusal.specs.Search.{found};
 ghost use Rattle.ternarytree.specs.Flatpacks.{entryIn, past, leafNumbered};
-ghost use Rattle.ternarytree.specs.Building.{qubitAt, slotAt};
+ghost use Rattle.ternarytree.specs.Building.{qubitAt, slotAt, faultSlot, placed};
 ghost use Rattle.ternarytree.specs.Tables.{nth, code, Holds, AtMost, Blank, childIn, flat, NodeBelow, Children, Wired, slotVerdict};
 
 // The qubit of each entry.
@@ -181,8 +182,14 @@ pub fn place(
     }
 }
 
-// Reads the slots of a flatpack: which node each holds, and the slots that hold the nodes and the leaves. The number of what is wrong with the entries or with the
-// first wrong slot, or 0.
+// The number of the first fault of entries and slots, or 0, and the slot that has it; 7 is no slot's.
+pub struct Fault {
+    pub number: usize,
+    pub place: Place,
+}
+
+// Reads the slots of a flatpack: which node each holds, and the slots that hold the nodes and the leaves. What is wrong with the entries or with the first wrong
+// slot.
 pub fn wire(
     leaves: bool,
     entries: &[usize],
@@ -191,24 +198,33 @@ pub fn wire(
     parents: &mut [usize; 256],
     children: &mut [usize; 768],
     slots: &mut [usize; 512],
-) -> usize
+) -> Fault
     requires { ⌜ (n ≤ 256) × (4 * n ≤ length (now entries)) × (3 * n ≤ length (now filled)) × AtMost n 255 (qubitAt (now entries)) × Blank 256 (now parents) × (length (now parents) ≡ 256) × (length (now children) ≡ 768) × Blank 512 (now slots) × (length (now slots) ≡ 512) ⌝ }
-    ensures { λ r. ⌜ (r ≡ slotVerdict (flat leaves n (now (entries .entry)) (now (filled .entry)))) × (r ≡ 0 → Wired (flat leaves n (now (entries .entry)) (now (filled .entry))) n (3 * n) (now (parents .exit)) (now (slots .exit)) × Children (flat leaves n (now (entries .entry)) (now (filled .entry))) n (3 * n) (now (children .exit)) × (length (now (slots .exit)) ≡ 512)) ⌝ }
+    ensures { λ r. ⌜ (r .number ≡ slotVerdict (flat leaves n (now (entries .entry)) (now (filled .entry)))) × (r .number ≡ 0 → Wired (flat leaves n (now (entries .entry)) (now (filled .entry))) n (3 * n) (now (parents .exit)) (now (slots .exit)) × Children (flat leaves n (now (entries .entry)) (now (filled .entry))) n (3 * n) (now (children .exit)) × (length (now (slots .exit)) ≡ 512)) × (placed (r .place) ≡ faultSlot (flat leaves n (now (entries .entry)) (now (filled .entry)))) ⌝ }
 {
     let mut table = [0usize; 256];
     if enter(entries, n, &mut table) {
-        return 7;
+        return Fault {
+            number: 7,
+            place: Place::Nowhere,
+        };
     }
     let top = past_all(entries, n);
     let mut k = 0;
     while k < 3 * n {
         let o = child_in(&table, top, leaves, slot_at(entries, filled, n, k));
         children[k] = node_code(o, n);
-        let fault = place(o, k, n, &mut *parents, &mut *slots);
-        if fault != 0 {
-            return fault;
+        let number = place(o, k, n, &mut *parents, &mut *slots);
+        if number != 0 {
+            return Fault {
+                number,
+                place: Place::Slot(k),
+            };
         }
         k += 1;
     }
-    0
+    Fault {
+        number: 0,
+        place: Place::Nowhere,
+    }
 }

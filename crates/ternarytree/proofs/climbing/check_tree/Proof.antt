@@ -1,6 +1,6 @@
 -- `check_tree` meets its contract: the tests in their order.
 use native.Mathlib.Omega.{arith}
-use mathlib.Core.Path.{_≡_, refl, ap, _∙_, sym}
+use mathlib.Core.Path.{_≡_, _∙_, sym}
 use mathlib.Core.Bool.{false}
 use Rattle.ternarytree.specs.Trees.{Tree, scattered}
 use Rattle.ternarytree.specs.Tables.{flat}
@@ -29,7 +29,7 @@ returns : tie.Need-returns
 returns c =
     let s = c .before .before .before .before .before .before .before in
     let y = c .before .wire in
-    (verdict-slot (s .args .leaves) (tree s) (y .result) (y .ensures .0) (c .if1 .taken), λ z. absurd (c .if1 .taken z))
+    (verdict-slot (s .args .leaves) (tree s) (y .result .number) (y .ensures .0) (c .if1 .taken), λ z. absurd (c .if1 .taken z))
 
 is-scattered-requires : tie.Need-is-scattered-requires
 is-scattered-requires c κs =
@@ -44,7 +44,7 @@ returns-2 c =
     let s = start e in
     let y = e .before .wire in
     let w = y .ensures .1 (e .if1 .left) in (
-      verdict-scattered (s .args .leaves) (tree s) (y .result) (y .ensures .0) (e .if1 .left)
+      verdict-scattered (s .args .leaves) (tree s) (y .result .number) (y .ensures .0) (e .if1 .left)
           (sym (c .before .is-scattered .ensures (tree s) (wired-parents (tree s) (s .args .n) _ _ (w .0))) ∙ c .if2 .taken),
       λ z. absurd (omega arith),
     )
@@ -59,7 +59,7 @@ returns-3 c =
     let s = start e in
     let y = e .before .wire in
     let w = y .ensures .1 (e .if1 .left) in (
-      verdict-missing (s .args .leaves) (tree s) (y .result) (y .ensures .0) (e .if1 .left) (together f) (c .before .before .before .if3 .taken)
+      verdict-missing (s .args .leaves) (tree s) (y .result .number) (y .ensures .0) (e .if1 .left) (together f) (c .before .before .before .if3 .taken)
           (sym (c .before .any-missing .ensures (tree s) _ (w .0)) ∙ c .if4 .taken),
       λ z. absurd (omega arith),
     )
@@ -71,7 +71,7 @@ returns-4 c =
     let s = start e in
     let y = e .before .wire in
     let w = y .ensures .1 (e .if1 .left) in (
-      verdict-whole (s .args .leaves) (tree s) (y .result) (y .ensures .0) (e .if1 .left) (together f)
+      verdict-whole (s .args .leaves) (tree s) (y .result .number) (y .ensures .0) (e .if1 .left) (together f)
           (sym (c .before .any-missing .ensures (tree s) _ (w .0)) ∙ c .if4 .left),
       λ z. w,
     )
@@ -83,7 +83,7 @@ returns-5 c =
     let s = start e in
     let y = e .before .wire in
     let w = y .ensures .1 (e .if1 .left) in (
-      verdict-naive (s .args .leaves) (tree s) (y .result) (y .ensures .0) (e .if1 .left) (together f) (c .if3 .left),
+      verdict-naive (s .args .leaves) (tree s) (y .result .number) (y .ensures .0) (e .if1 .left) (together f) (c .if3 .left),
       λ z. w,
     )
 

@@ -1,10 +1,11 @@
 -- `wire` meets its contract: `Wiring` holds of the slots before k.
-use Prim.Native.Nat.{ℕ, _+_, _-_, _*_, _<_, _≤_}
+use Prim.Native.Nat.{ℕ, _-_, _*_}
 use native.Mathlib.Omega.{arith}
-use mathlib.Core.Path.{_≡_, refl, ap, _∙_, sym}
+use mathlib.Core.Path.{_≡_, refl, _∙_, sym}
 use mathlib.Core.List.{List}
-use lib.ListN.{length, getD-replicate}
+use lib.ListN.{getD-replicate}
 use Rattle.ternarytree.specs.Trees.{Tree}
+use Rattle.ternarytree.specs.Building.{faultSlot}
 use Rattle.ternarytree.specs.Tables.{flat, slotVerdict}
 use Rattle.ternarytree.proofs.WireSteps.{Wiring, wired-none, wiring-child, wiring-below, wiring-fault, wiring-next, wiring-end}
 use borrow.Author.Needs.{needs}
@@ -40,8 +41,8 @@ enter-requires : tie.Need-enter-requires Inv-loop μ-loop
 enter-requires c κs = let p = c .before .before .before .pre in (p .0, p .1, p .3, λ j h. getD-replicate 256 j 0 0 h, refl)
 
 returns : tie.Need-returns Inv-loop μ-loop
-unfolding slotVerdict
-returns c = (rw (sym (c .before .enter .ensures .1) ∙ c .if1 .taken), λ z. absurd (omega arith))
+unfolding slotVerdict faultSlot
+returns c = let twice = sym (c .before .enter .ensures .1) ∙ c .if1 .taken in (rw twice, λ z. absurd (omega arith), rw twice)
 
 past-all-requires : tie.Need-past-all-requires Inv-loop μ-loop
 past-all-requires c κs = search needs
@@ -107,11 +108,10 @@ returns-2 c =
     let h = c .before .before .before .before .before in
     let l = turn h in
     let s = start l in
-    let y = c .before .place in (
-      wiring-fault (s .args .leaves) (s .args .entries .now) (s .args .filled .now) (s .args .n) (table l) (l .before .past-all .result) (l .loop .parents) (l .loop .children) (l .loop .slots) (l .loop .k) (l .loop .inv)
-          (h .child-in .result) (y .result) (h .before .before .before .loop-test .taken) (held h) (y .ensures .2 (tree s) (held h) (l .loop .inv .wired) .0) (c .if2 .taken),
-      λ z. absurd (c .if2 .taken z),
-    )
+    let y = c .before .place in
+    let r = wiring-fault (s .args .leaves) (s .args .entries .now) (s .args .filled .now) (s .args .n) (table l) (l .before .past-all .result) (l .loop .parents) (l .loop .children) (l .loop .slots) (l .loop .k) (l .loop .inv)
+    (h .child-in .result) (y .result) (h .before .before .before .loop-test .taken) (held h) (y .ensures .2 (tree s) (held h) (l .loop .inv .wired) .0) (c .if2 .taken) in
+    (r .0, λ z. absurd (c .if2 .taken z), r .1)
 
 add-k : tie.Need-add-k Inv-loop μ-loop
 add-k c = search needs
