@@ -16,3 +16,4 @@ pub mod Replies
 pub mod Packs
 pub mod Outputs
 pub mod OutputExamples
+pub mod Locating
