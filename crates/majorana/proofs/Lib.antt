@@ -1,4 +1,5 @@
 pub mod Theorems
+pub mod NewTheorems
 pub mod Cases
 pub mod SetLaws
 pub mod ModeLaws
@@ -6,8 +7,8 @@ pub mod CodeSteps
 pub mod CodeAnswers
 pub mod CheckLaws
 pub mod CheckAnswers
+pub mod VacuumLaws
+pub mod VacuumAnswers
 pub mod ProductLaws
 pub mod ProductAnswers
 pub mod ProductExamples
-pub mod OrderLaws
-pub mod Permutations

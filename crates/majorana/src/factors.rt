@@ -168,7 +168,7 @@ pub fn multiply(
 ) -> Made
     ensures { λ r. ⌜ MakesOrRefuses (given modes qubits (now (x .entry)) (now (z .entry)) (now (phases .entry))) (now (numbers .entry)) finite (now (ox .entry)) (now (oz .entry)) r (now (ox .exit)) (now (oz .exit)) ⌝ }
 {
-    if rows::bad_size(modes, qubits) {
+    if crate::bad_size(modes, qubits) {
         return Made::Refused(Refusal::Size);
     }
     if 512 < numbers.len() {

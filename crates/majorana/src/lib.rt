@@ -1,7 +1,10 @@
 // Row sets: n modes on q qubits, two rows a mode.
 //
+//   bad_size                     whether 1 refuses these sizes
 //   check_rows                   10, 11 or 13 unless rows anticommute, are independent, and the vacuum rule holds
 //   check_vacuum                 13 unless the vacuum rule holds at the given string
+//   determine_vacuum_state       the string that meets the vacuum rule, or 12
+//   new                          the vacuum of a row set that passes all checks: 12, 10, 11 or 13
 //   try_encode                   an occupation list to a string and its phase
 //   decode_zbasis_state          a string back to the list
 //   product, product_real        rows multiplied, with a complex or a real coefficient
@@ -13,8 +16,8 @@ mod check;
 mod coding;
 mod factors;
 mod mode;
-mod order;
 mod rows;
+mod vacuum;
 
 use factors::Made;
 use pauli::Coefficient;
@@ -24,8 +27,9 @@ use refusal::Answer;
 use refusal::Refusal;
 ghost use mathlib.Core.Path.{_≡_};
 ghost use Rattle.refusal.specs.Numbers.{answered};
-ghost use Rattle.majorana.specs.Sets.{given};
+ghost use Rattle.majorana.specs.Sets.{given, badSize};
 ghost use Rattle.majorana.specs.Checks.{vacuumChecked, RowsChecked};
+ghost use Rattle.majorana.specs.Vacuums.{Solves, Makes};
 ghost use Rattle.majorana.specs.Codes.{Encodes, Decodes};
 ghost use Rattle.majorana.specs.Products.{Multiplies, RealMultiplies};
 
@@ -47,6 +51,22 @@ pub enum RealMultiplied {
     Refused(Refusal),
 }
 
+// Whether modes or qubits are 0 or above 256.
+pub fn bad_size(modes: usize, qubits: usize) -> bool
+    ensures { λ r. ⌜ r ≡ badSize modes qubits ⌝ }
+{
+    if modes == 0 {
+        return true;
+    }
+    if 256 < modes {
+        return true;
+    }
+    if qubits == 0 {
+        return true;
+    }
+    256 < qubits
+}
+
 // Whether the vacuum rule holds at `vacuum`.
 pub fn check_vacuum(
     modes: usize,
@@ -58,7 +78,7 @@ pub fn check_vacuum(
 ) -> Answer
     ensures { λ r. ⌜ answered r ≡ vacuumChecked (given modes qubits (now (x .entry)) (now (z .entry)) (now (phases .entry))) (now (vacuum .entry)) ⌝ }
 {
-    if rows::bad_size(modes, qubits) {
+    if bad_size(modes, qubits) {
         return Answer::Refused(Refusal::Size);
     }
     let w = dense_block::words_for(qubits);
@@ -88,7 +108,7 @@ pub fn check_rows(
 ) -> Answer
     ensures { λ r. ⌜ RowsChecked (given modes qubits (now (x .entry)) (now (z .entry)) (now (phases .entry))) (now (vacuum .entry)) (now (room .entry)) r (now (room .exit)) ⌝ }
 {
-    if rows::bad_size(modes, qubits) {
+    if bad_size(modes, qubits) {
         return Answer::Refused(Refusal::Size);
     }
     let w = dense_block::words_for(qubits);
@@ -112,6 +132,79 @@ pub fn check_rows(
     answer
 }
 
+// The vacuum: the string that meets the vacuum rule and is zero in each column equal to a xor of some columns before it, or 12 if no string meets the rule. Looks at
+// pairs only, and does not test anticommutation. Done: the string is in the first w words of vacuum. Refused: vacuum is as it was. Works in the first modes·(w + 1)
+// words of room, which are zero after every call that got past 1 and 2.
+pub fn determine_vacuum_state(
+    modes: usize,
+    qubits: usize,
+    x: &[u64],
+    z: &[u64],
+    phases: &[u8],
+    vacuum: &mut [u64],
+    room: &mut [u64],
+) -> Answer
+    ensures { λ r. ⌜ Solves (given modes qubits (now (x .entry)) (now (z .entry)) (now (phases .entry))) (now (vacuum .entry)) (now (room .entry)) r (now (vacuum .exit)) (now (room .exit)) ⌝ }
+{
+    if rows::bad_size(modes, qubits) {
+        return Answer::Refused(Refusal::Size);
+    }
+    let w = dense_block::words_for(qubits);
+    let need = modes * (w + 1);
+    if rows::short_two(
+        modes,
+        w,
+        x.len(),
+        z.len(),
+        phases.len(),
+        w,
+        vacuum.len(),
+        need,
+        room.len(),
+    ) {
+        return Answer::Refused(Refusal::Short);
+    }
+    let answer = vacuum::solve_lent(modes, qubits, w, x, z, phases, vacuum, room);
+    dense_block::clear(room, need);
+    answer
+}
+
+// Solves the vacuum, checks the rows, then checks the vacuum: 12, 10, 11 and 13, in this order. Done: the vacuum is in the first w words of vacuum. Refused: vacuum is
+// as it was. Works in the first 4·modes·w words of room, which are zero after every call that got past 1 and 2.
+pub fn new(
+    modes: usize,
+    qubits: usize,
+    x: &[u64],
+    z: &[u64],
+    phases: &[u8],
+    vacuum: &mut [u64],
+    room: &mut [u64],
+) -> Answer
+    ensures { λ r. ⌜ Makes (given modes qubits (now (x .entry)) (now (z .entry)) (now (phases .entry))) (now (vacuum .entry)) (now (room .entry)) r (now (vacuum .exit)) (now (room .exit)) ⌝ }
+{
+    if rows::bad_size(modes, qubits) {
+        return Answer::Refused(Refusal::Size);
+    }
+    let w = dense_block::words_for(qubits);
+    let need = 4 * modes * w;
+    if rows::short_two(
+        modes,
+        w,
+        x.len(),
+        z.len(),
+        phases.len(),
+        w,
+        vacuum.len(),
+        need,
+        room.len(),
+    ) {
+        return Answer::Refused(Refusal::Short);
+    }
+    let answer = vacuum::new_lent(modes, qubits, w, x, z, phases, vacuum, room);
+    dense_block::clear(room, need);
+    answer
+}
+
 // Encodes an occupation list of `modes` bits, from the highest occupied mode down, starting at `vacuum` with phase 0. Done: the phase is in the answer and the string
 // in the first w words of out. Refused (15: a condition is not met): out is as it was.
 pub fn try_encode(
@@ -126,7 +219,7 @@ pub fn try_encode(
 ) -> Encoded
     ensures { λ r. ⌜ Encodes (given modes qubits (now (x .entry)) (now (z .entry)) (now (phases .entry))) (now (vacuum .entry)) (now (list .entry)) (now (out .entry)) r (now (out .exit)) ⌝ }
 {
-    if rows::bad_size(modes, qubits) {
+    if bad_size(modes, qubits) {
         return Encoded::Refused(Refusal::Size);
     }
     let w = dense_block::words_for(qubits);
@@ -168,7 +261,7 @@ pub fn decode_zbasis_state(
 ) -> Answer
     ensures { λ r. ⌜ Decodes (given modes qubits (now (x .entry)) (now (z .entry)) (now (phases .entry))) (now (vacuum .entry)) (now (string .entry)) (now (out .entry)) r (now (out .exit)) ⌝ }
 {
-    if rows::bad_size(modes, qubits) {
+    if bad_size(modes, qubits) {
         return Answer::Refused(Refusal::Size);
     }
     let w = dense_block::words_for(qubits);

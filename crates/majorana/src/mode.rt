@@ -13,7 +13,7 @@ ghost use Rattle.dense_block.specs.Words.{value};
 ghost use Rattle.majorana.specs.Sets.{modesAt, Held};
 
 // The phase difference d of mode i.
-fn difference(modes: usize, w: usize, x: &[u64], z: &[u64], phases: &[u8], i: usize) -> u8
+pub fn difference(modes: usize, w: usize, x: &[u64], z: &[u64], phases: &[u8], i: usize) -> u8
     requires { ⌜ Held modes w (now x) (now z) (now phases) × (i < modes) ⌝ }
     ensures { λ r. ⌜ r ≡ d (modesAt modes w (now (x .entry)) (now (z .entry)) (now (phases .entry))) i ⌝ }
 {

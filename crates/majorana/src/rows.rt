@@ -7,23 +7,7 @@ ghost use Prim.Native.Nat.{_+_, _*_, _≤_, _<_};
 ghost use lib.ListN.{length};
 ghost use Rattle.refusal.specs.Table.{_of_, short};
 ghost use Rattle.dense_block.specs.Words.{termOf, strays};
-ghost use Rattle.majorana.specs.Sets.{badSize, setLent, badRowAt, badRows, Fits};
-
-// Modes or qubits 0 or above 256.
-pub fn bad_size(modes: usize, qubits: usize) -> bool
-    ensures { λ r. ⌜ r ≡ badSize modes qubits ⌝ }
-{
-    if modes == 0 {
-        return true;
-    }
-    if 256 < modes {
-        return true;
-    }
-    if qubits == 0 {
-        return true;
-    }
-    256 < qubits
-}
+ghost use Rattle.majorana.specs.Sets.{setLent, badRowAt, badRows, Fits};
 
 // Whether slices of these lengths are too short for the rows.
 fn set_short(modes: usize, w: usize, x: usize, z: usize, p: usize) -> bool

@@ -2,10 +2,10 @@
 use Prim.Native.Nat.{_*_}
 use Rattle.dense_block.specs.Words.{termOf}
 use Rattle.dense_block.proofs.Terms.{length-term}
-use Rattle.majorana.proofs.OrderLaws.{row-written}
+use Rattle.enumeration.proofs.OrderLaws.{row-written}
 use borrow.Author.Needs.{needs}
-use Rattle.majorana.proofs.order.copy_row.Statement.{statement}
-use Rattle.majorana.proofs.order.copy_row.Tie as tie
+use Rattle.enumeration.proofs.order.copy_row.Statement.{statement}
+use Rattle.enumeration.proofs.order.copy_row.Tie as tie
 
 mul-a : tie.Need-mul-a
 mul-a c = search needs
@@ -25,8 +25,8 @@ part-copy-start c = search needs
 part-copy-end : tie.Need-part-copy-end
 part-copy-end c = search needs
 
-row-requires : tie.Need-row-requires
-row-requires c κs = search needs
+get-term-requires : tie.Need-get-term-requires
+get-term-requires c κs = search needs
 
 copy-requires : tie.Need-copy-requires
 copy-requires c κs = search needs
@@ -38,7 +38,7 @@ returns : tie.Need-returns
 returns c =
     let a = c .before .before .before .before .before .before .before .args in
     row-written (a .w) (a .to * a .w) (a .out .now) (termOf (a .w) (a .x .now) (a .from)) (c .before .before .copy .last .0) (c .before .before .before .before .before .before .before .pre .1)
-    (length-term (a .w) (a .x .now) (a .from) (c .before .before .before .before .before .before .before .pre .0)) (rw (c .before .before .before .row .ensures) at (c .before .before .copy .ensures))
+    (length-term (a .w) (a .x .now) (a .from) (c .before .before .before .before .before .before .before .pre .0)) (rw (c .before .before .before .get-term .ensures) at (c .before .before .copy .ensures))
 
 pub copy-row-spec : {M : Type 1} → statement M
 copy-row-spec =
@@ -50,7 +50,7 @@ copy-row-spec =
     sub-copy
     part-copy-start
     part-copy-end
-    row-requires
+    get-term-requires
     copy-requires
     same-length
     returns)

@@ -6,11 +6,11 @@ use mathlib.Core.Bool.{true}
 use lib.ListN.{length, getD}
 use Rattle.refusal.specs.Search.{allBelow}
 use Rattle.dense_block.proofs.Values.{Words}
-use Rattle.majorana.specs.Orders.{newNumber}
-use Rattle.majorana.proofs.OrderLaws.{number-high, number-again, number-new, no-permutation, passed-none, passed-one, passed-all, Marked, marked-none, marked-one}
+use Rattle.enumeration.specs.Orders.{newNumber}
+use Rattle.enumeration.proofs.OrderLaws.{number-high, number-again, number-new, no-permutation, passed-none, passed-one, passed-all, Marked, marked-none, marked-one}
 use borrow.Author.Needs.{needs}
-use Rattle.majorana.proofs.order.all_new.Statement.{statement}
-use Rattle.majorana.proofs.order.all_new.Tie as tie
+use Rattle.enumeration.proofs.order.all_new.Statement.{statement}
+use Rattle.enumeration.proofs.order.all_new.Tie as tie
 
 abbrev Inv-loop : tie.InvT-loop
 Inv-loop modes map met₀ i₀ met i = (i ≤ modes) × (length met ≡ 4) × Words met × Marked i map met × (allBelow i (newNumber modes map) ≡ true)

@@ -2,18 +2,18 @@
 use Prim.Native.Nat.{ℕ, zero, suc, _<_}
 use native.Mathlib.Decide.{decLt, ℕ-discrete}
 use native.Mathlib.Omega.{arith}
-use mathlib.Core.Path.{_≡_, refl, sym, ap, _∙_}
-use mathlib.Core.List.{List, [], _∷_}
-use mathlib.Core.Bool.{true, false}
+use mathlib.Core.Path.{_≡_, sym, ap, _∙_}
+use mathlib.Core.List.{List}
+use mathlib.Core.Bool.{true}
 use mathlib.Core.Logic.{_≢_}
 use borrow.Author.Tests.{eq-eqb, ne-eqb, eqb-true}
 use lib.Dec.{eqb}
 use lib.ListN.{getD}
-use Rattle.refusal.specs.Search.{someBelow, allBelow, Least, found, none, leastBelow}
+use Rattle.refusal.specs.Search.{Least, found, none, leastBelow}
 use Rattle.refusal.proofs.Bools.{never}
 use Rattle.refusal.proofs.Searches.{some-of, some-at, none-of, all-of, Searched, hit, miss, searched}
-use Rattle.majorana.specs.Orders.{among, newNumber, permutation, enumeratedWords, enumeratedPhases}
-use Rattle.majorana.proofs.OrderLaws.{number-new, number-below, numbers-differ}
+use Rattle.enumeration.specs.Orders.{among, newNumber, permutation}
+use Rattle.enumeration.proofs.OrderLaws.{number-new, number-below, numbers-differ}
 
 -- ---- numbers all below n and no two equal
 
@@ -140,16 +140,3 @@ module _ (n : ℕ) (ms : List ℕ) where
             let m : j < n = omega arith in
             let same : j ≡ i = sym (from-place j m .2) ∙ ap place (sym (number-at j m) ∙ e ∙ number-at i l) ∙ from-place i l .2 in
             omega arith
-
--- ---- small cases
-
--- two modes exchanged; a repeat; a hole; a number n
-pub small-maps : (permutation 2 (1 ∷ 0 ∷ []) ≡ true) × (permutation 2 (1 ∷ 1 ∷ []) ≡ false) × (permutation 3 (0 ∷ 3 ∷ 1 ∷ []) ≡ false) × (permutation 2 (0 ∷ 2 ∷ []) ≡ false)
-unfolding permutation newNumber among allBelow someBelow
-small-maps = (refl, refl, refl, refl)
-
--- three modes moved round: new mode i is old mode i + 1
-pub small-order : (enumeratedWords 1 3 (1 ∷ 2 ∷ 0 ∷ []) (10 ∷ 11 ∷ 20 ∷ 21 ∷ 30 ∷ 31 ∷ []) ≡ 20 ∷ 21 ∷ 30 ∷ 31 ∷ 10 ∷ 11 ∷ [])
-    × (enumeratedPhases 3 (1 ∷ 2 ∷ 0 ∷ []) (0 ∷ 1 ∷ 2 ∷ 3 ∷ 0 ∷ 3 ∷ []) ≡ 2 ∷ 3 ∷ 0 ∷ 3 ∷ 0 ∷ 1 ∷ [])
-unfolding enumeratedWords enumeratedPhases
-small-order = (refl, refl)

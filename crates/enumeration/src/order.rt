@@ -1,12 +1,11 @@
 // The modes of a row set in another order: new mode i has the old rows of mode map[i].
 
-use crate::rows::row;
 ghost use mathlib.Core.Path.{_≡_};
 ghost use mathlib.Core.List.{_++_};
 ghost use Prim.Native.Nat.{_+_, _*_, _/_, _<_, _≤_};
 ghost use lib.ListN.{length, getD, take, drop};
 ghost use Rattle.dense_block.specs.Words.{value, termOf};
-ghost use Rattle.majorana.specs.Orders.{permutation, oldRow, enumeratedWords, enumeratedPhases, Maps};
+ghost use Rattle.enumeration.specs.Orders.{permutation, oldRow, enumeratedWords, enumeratedPhases, Maps};
 
 // Whether the first numbers of the map, one for each mode, are a permutation. The numbers met are marked in `met`.
 fn all_new(modes: usize, map: &[usize], met: &mut [u64]) -> bool
@@ -53,7 +52,7 @@ fn copy_row(w: usize, from: usize, x: &[u64], to: usize, out: &mut [u64])
 {
     let a = to * w;
     let e = a + w;
-    dense_block::copy(&mut out[a..e], row(w, from, x));
+    dense_block::copy(&mut out[a..e], dense_block::get_term(x, w, from));
 }
 
 // The words of the rows in the new order.

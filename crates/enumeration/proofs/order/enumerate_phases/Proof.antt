@@ -4,11 +4,11 @@ use Prim.Native.Nat.{ℕ, _-_, _*_, _≤_}
 use mathlib.Core.Path.{_≡_, refl, ap, _∙_}
 use mathlib.Core.List.{[], _∷_, _++_}
 use lib.ListN.{length, getD, drop, set, length-set}
-use Rattle.majorana.specs.Orders.{oldRow, joined, enumeratedPhases}
-use Rattle.majorana.proofs.OrderLaws.{old-row-low, mode-given, next-one}
+use Rattle.enumeration.specs.Orders.{oldRow, joined, enumeratedPhases}
+use Rattle.enumeration.proofs.OrderLaws.{old-row-low, mode-given, next-one}
 use borrow.Author.Needs.{needs}
-use Rattle.majorana.proofs.order.enumerate_phases.Statement.{statement}
-use Rattle.majorana.proofs.order.enumerate_phases.Tie as tie
+use Rattle.enumeration.proofs.order.enumerate_phases.Statement.{statement}
+use Rattle.enumeration.proofs.order.enumerate_phases.Tie as tie
 
 abbrev Inv-loop : tie.InvT-loop
 Inv-loop modes map phases out₀ rows k₀ out k = (k ≤ 2 * modes) × (length out ≡ length out₀) × (out ≡ joined k (λ k. getD phases (oldRow map k) 0 ∷ []) ++ drop k out₀)

@@ -1,8 +1,8 @@
--- `rows::bad_size` meets its contract: test by test.
+-- `majorana::bad_size` meets its contract: test by test.
 use borrow.Author.Tests.{eq-eqb, ne-eqb, lt-ltb, le-ltb}
 use Rattle.majorana.specs.Sets.{badSize}
-use Rattle.majorana.proofs.rows.bad_size.Statement.{statement}
-use Rattle.majorana.proofs.rows.bad_size.Tie as tie
+use Rattle.majorana.proofs.bad_size.Statement.{statement}
+use Rattle.majorana.proofs.bad_size.Tie as tie
 
 returns : tie.Need-returns
 unfolding badSize

@@ -6,11 +6,11 @@ use mathlib.Core.List.{List, _++_}
 use lib.ListN.{length, take, drop}
 use Rattle.dense_block.specs.Words.{termOf}
 use Rattle.dense_block.proofs.Terms.{row-within}
-use Rattle.majorana.specs.Orders.{oldRow, joined, enumeratedWords}
-use Rattle.majorana.proofs.OrderLaws.{mode-given, old-row-within, length-first, next-row}
+use Rattle.enumeration.specs.Orders.{oldRow, joined, enumeratedWords}
+use Rattle.enumeration.proofs.OrderLaws.{old-row-low, mode-given, length-first, next-row}
 use borrow.Author.Needs.{needs}
-use Rattle.majorana.proofs.order.enumerate_words.Statement.{statement}
-use Rattle.majorana.proofs.order.enumerate_words.Tie as tie
+use Rattle.enumeration.proofs.order.enumerate_words.Statement.{statement}
+use Rattle.enumeration.proofs.order.enumerate_words.Tie as tie
 
 abbrev Inv-loop : tie.InvT-loop
 Inv-loop modes w map x out₀ rows k₀ out k = (k ≤ 2 * modes) × (length out ≡ length out₀) × (out ≡ joined k (λ k. termOf w x (oldRow map k)) ++ drop (k * w) out₀)
@@ -33,9 +33,11 @@ copy-row-requires : tie.Need-copy-row-requires Inv-loop μ-loop
 copy-row-requires c κs =
     let l = c .before .before .before .loop in
     let a = c .before .before .before .before .before .before .before .args in
-    let p = c .before .before .before .before .before .before .before .pre in (
-      omega (arith, ap (λ (i : ℕ). i * a .w) (c .before .old-row .ensures), old-row-within (a .modes) (a .w) (a .map .now) (p .0) (a .x .now) (p .1) (l .k) (omega arith)),
-      omega (arith, row-within (l .k) (2 * a .modes) (a .w) (length (a .out .now)) (omega arith) (p .2), l .inv .1),
+    let p = c .before .before .before .before .before .before .before .pre in
+    let low = old-row-low (p .0) (l .k) (omega arith) in
+    let row = c .before .old-row .ensures in (
+      row-within _ (2 * a .modes) (a .w) (length (a .x .now)) (omega (arith, low, row)) (p .1),
+      row-within _ (2 * a .modes) (a .w) (length (l .out)) (omega (arith, low, row)) (omega (arith, p .2, l .inv .1)),
     )
 
 add-k : tie.Need-add-k Inv-loop μ-loop

@@ -1,0 +1,5 @@
+pub mod OrderLaws
+pub mod Permutations
+pub mod EnumerationAnswers
+pub mod Theorems
+pub mod Examples
