@@ -21,3 +21,7 @@ pub mod RowSteps
 pub mod AllRows
 pub mod VacuumSteps
 pub mod PlantSteps
+pub mod BuildSteps
+pub mod Verdicts
+pub mod Answers
+pub mod Theorems

@@ -83,8 +83,8 @@ module _ (leaves : Bool) (es : List ℕ) (fs : List Bool) (n : ℕ) (table : Lis
     before = below-more _ k (w .before) (ap (faultOf (flat leaves n es fs) k) e ∙ sym er ∙ z);
   }
 
-  pub wiring-end : 3 * n ≤ k → (0 ≡ slotVerdict (flat leaves n es fs)) × (_≡_ {A = ℕ} 0 0 → Wired (flat leaves n es fs) n (3 * n) ps ls × Children (flat leaves n es fs) n (3 * n) cs)
+  pub wiring-end : 3 * n ≤ k → (0 ≡ slotVerdict (flat leaves n es fs)) × (_≡_ {A = ℕ} 0 0 → Wired (flat leaves n es fs) n (3 * n) ps ls × Children (flat leaves n es fs) n (3 * n) cs × (length ls ≡ 512))
   unfolding slotVerdict
   wiring-end h =
       let e : k ≡ 3 * n = omega (arith, w .some-left) in
-      (rw (w .once) (sym (no-faults (flat leaves n es fs) k (w .before) e)), λ _. (rw e at (w .wired), record { size = refl; nodes = rw e at (w .nodes) }))
+      (rw (w .once) (sym (no-faults (flat leaves n es fs) k (w .before) e)), λ _. (rw e at (w .wired), record { size = refl; nodes = rw e at (w .nodes) }, w .ls-length))

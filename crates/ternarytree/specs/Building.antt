@@ -110,6 +110,10 @@ badQubits i = ltb (i .q) (i .n) || reaches (i .es) (i .n) (i .q)
 unfoldable pub answer : Input → Paper
 answer i = firstOf ((badSize i gives 1) ∷ (tooShort i gives 2) ∷ (badQubits i gives 3) ∷ treeChecks (i .leaves) (treeOf i))
 
+-- what the answer r and the outputs of building a flatpack are
+abbrev pub FlatBuilt : Input → Answer → List ℕ → List ℕ → List ℕ → List ℕ → List ℕ → Type 0
+FlatBuilt i r xs zs ps vs room = Built (answer i) (wordsFor (i .q)) (rows (i .leaves) (treeOf i)) (i .out) r xs zs ps vs room
+
 -- ---- named trees
 
 -- n nodes, for q qubits; the rows keep n columns, and their lengths count n columns
@@ -129,3 +133,7 @@ namedAnswer i =
     ∷ (short (needed (i .n) (wordsFor (i .n)) (i .out)) gives 2)
     ∷ (ltb (i .q) (i .n) gives 3)
     ∷ treeChecks false (namedTree (i .tree) (i .n)))
+
+-- what the answer r and the outputs of building a named tree are
+abbrev pub NamedBuilt : NamedInput → Answer → List ℕ → List ℕ → List ℕ → List ℕ → List ℕ → Type 0
+NamedBuilt i r xs zs ps vs room = Built (namedAnswer i) (wordsFor (i .n)) (rows false (namedTree (i .tree) (i .n))) (i .out) r xs zs ps vs room

@@ -1,21 +1,23 @@
 -- What the tables of the code hold, for the contracts of its parts.
 use Prim.Native.Nat.{ℕ, zero, suc, _*_, _/_, _%_, _^_, _<_, _≤_}
 use mathlib.Core.Path.{_≡_}
-use mathlib.Core.List.{List}
-use mathlib.Core.Bool.{Bool, cond, _&&_}
+use mathlib.Core.List.{List, [], _∷_}
+use mathlib.Core.Bool.{Bool, cond, not, _&&_, _||_}
 use lib.Dec.{ltb}
 use lib.Bits.{bitXor}
 use lib.ListN.{length, getD, set}
 use Rattle.refusal.specs.declared.Answer.{Answer}
 use Rattle.refusal.specs.Numbers.{Paper, answered}
 use Rattle.refusal.specs.Search.{Least, found, none}
-use Rattle.algebra.specs.Modes.{Modes}
+use Rattle.refusal.specs.Table.{_gives_, firstOf}
+use Rattle.algebra.specs.Modes.{Modes, vacuumRule}
 use Rattle.dense_block.specs.Words.{value, wordsOf, zeroed, termOf}
 use Rattle.dense_block.specs.Blocks.{laid, listed}
 use Rattle.ternarytree.specs.Trees.{Child, empty, Tree, nodeOf, up, parentIn, leafIn, twice, firstFault, scattered, missing}
 use Rattle.ternarytree.specs.Paths.{rowAt}
+use Rattle.ternarytree.specs.Leaves.{slotOf}
 use Rattle.ternarytree.specs.Flatpacks.{Slot, blank, number, Flatpack, unnamed, named, flatTree}
-use Rattle.ternarytree.specs.Building.{settled, qubitAt, slotAt}
+use Rattle.ternarytree.specs.Building.{settled, treeChecks, qubitAt, slotAt, reaches}
 
 -- element k of a list, 0 past its end
 abbrev pub nth : List ℕ → ℕ → ℕ
@@ -136,6 +138,21 @@ pub record Planted (t : Tree) (n : ℕ) (columns parents children : List ℕ) : 
   pub qubits : Columns t n columns
   pub ups : Parents t n parents
   pub nodes : Children t n (3 * n) children
+
+-- the same as `Built` needs them: the slots of its leaves too, and its columns lie in w words
+pub record Ready (leaves : Bool) (t : Tree) (n w : ℕ) (parents columns slots : List ℕ) : Type 0 where
+  pub ups : Parents t n parents
+  pub qubits : Columns t n columns
+  pub within : (i : ℕ) → i < n → nth columns i / 64 < w
+  pub ends : Slots (slotOf leaves t) n slots
+
+-- the answer to the rows of a tree that passed its tests: 13, or done
+abbrev pub rowsAnswer : Modes → Paper
+rowsAnswer m = firstOf ((not (vacuumRule m 0) gives 13) ∷ [])
+
+-- the answer to a flatpack past 1 and 2
+abbrev pub flatTask : Bool → ℕ → ℕ → List ℕ → List Bool → Paper
+flatTask leaves n q es fs = firstOf ((ltb q n || reaches es n q gives 3) ∷ treeChecks leaves (flat leaves n es fs))
 
 -- what is left of the outputs when the answer r of building the rows m is p
 pub record TreeBuilt (p : Paper) (w : ℕ) (m : Modes) (xs zs ps vs : List ℕ) (r : Answer) (xs′ zs′ ps′ vs′ : List ℕ) : Type 0 where

@@ -4,6 +4,7 @@
 //   from_flatpack_naive   a flatpack of nodes, with the leaves at the ends of Z chains
 //   from_name             Jordan-Wigner, parity, Bravyi-Kitaev or JKMN
 
+mod building; // building.rt: from tables to rows, and from flatpacks and names to tables
 mod chains; // chains.rt: naive trees, the slots of the leaves
 mod climbing; // climbing.rt: climbs to the root, and the tests of a whole tree
 mod planting; // planting.rt: the named trees, into tables
@@ -14,7 +15,8 @@ use refusal::Answer;
 use refusal::Refusal;
 ghost use mathlib.Core.Path.{_≡_};
 ghost use mathlib.Core.List.{[], _∷_};
-ghost use mathlib.Core.Bool.{Bool, true, false};
+ghost use mathlib.Core.Bool.{true, false, _||_};
+ghost use lib.Dec.{ltb};
 ghost use Prim.Native.Nat.{ℕ, _*_, _<_, _≤_};
 ghost use lib.ListN.{length};
 ghost use Rattle.refusal.specs.Numbers.{bare, answered};
@@ -23,7 +25,7 @@ ghost use Rattle.dense_block.specs.Words.{wordsFor, zeroed};
 ghost use Rattle.ternarytree.specs.Trees.{Tree};
 ghost use Rattle.ternarytree.specs.Leaves.{slotOf, rows};
 ghost use Rattle.ternarytree.specs.Named.{namedTree};
-ghost use Rattle.ternarytree.specs.Building.{qubitAt, outside, reaches, treeChecks};
+ghost use Rattle.ternarytree.specs.Building.{given, qubitAt, outside, reaches, FlatBuilt, asked, NamedBuilt};
 ghost use Rattle.ternarytree.specs.Tables.{nth, AtMost, flat, Children, Wired, Slots, RowsWritten, TreeBuilt};
 
 // What a slot of a tree holds.
@@ -60,6 +62,16 @@ fn outside(k: usize) -> bool
     256 < k
 }
 
+// Whether one of two numbers is.
+fn either_outside(n: usize, q: usize) -> bool
+    ensures { λ r. ⌜ r ≡ (outside n || outside q) ⌝ }
+{
+    if outside(n) {
+        return true;
+    }
+    outside(q)
+}
+
 // The qubit of entry i; 0 past the end.
 fn qubit_at(entries: &[usize], i: usize) -> usize
     requires { ⌜ i < 256 ⌝ }
@@ -82,6 +94,30 @@ fn reaches(entries: &[usize], n: usize, b: usize) -> bool
         i += 1;
     }
     false
+}
+
+// 1: modes or qubits 0 or above 256, or a flatpack qubit above 255.
+fn bad_size(entries: &[usize], n: usize, q: usize) -> bool
+    ensures { λ r. ⌜ r ≡ (outside n || (outside q || reaches (now (entries .entry)) n 256)) ⌝ }
+{
+    if outside(n) {
+        return true;
+    }
+    if outside(q) {
+        return true;
+    }
+    reaches(entries, n, 256)
+}
+
+// 3: qubits fewer than nodes, or a flatpack qubit not below qubits.
+fn bad_qubits(entries: &[usize], n: usize, q: usize) -> bool
+    requires { ⌜ n ≤ 256 ⌝ }
+    ensures { λ r. ⌜ r ≡ (ltb q n || reaches (now (entries .entry)) n q) ⌝ }
+{
+    if q < n {
+        return true;
+    }
+    reaches(entries, n, q)
 }
 
 // Whether one of the lengths of the outputs is below what n modes need, with w words to a part of a row.
@@ -110,6 +146,30 @@ fn outputs_short(
         return true;
     }
     room < 4 * n * w
+}
+
+// The same for a flatpack, whose entries and places come before the outputs.
+fn flat_short(
+    n: usize,
+    w: usize,
+    entries: usize,
+    filled: usize,
+    x: usize,
+    z: usize,
+    phases: usize,
+    vacuum: usize,
+    room: usize,
+) -> bool
+    requires { ⌜ (n ≤ 256) × (w ≤ 4) ⌝ }
+    ensures { λ r. ⌜ r ≡ short ((4 * n of entries) ∷ (3 * n of filled) ∷ (2 * n * w of x) ∷ (2 * n * w of z) ∷ (2 * n of phases) ∷ (w of vacuum) ∷ (4 * n * w of room) ∷ []) ⌝ }
+{
+    if entries < 4 * n {
+        return true;
+    }
+    if filled < 3 * n {
+        return true;
+    }
+    outputs_short(n, w, x, z, phases, vacuum, room)
 }
 
 // The refusal of a number that a tree's tests give.
@@ -145,4 +205,145 @@ fn clear_phases(phases: &mut [u8], n: usize)
         phases[i] = 0;
         i += 1;
     }
+}
+
+// Builds a flatpack, with leaves or naive.
+fn from_entries(
+    leaves: bool,
+    modes: usize,
+    qubits: usize,
+    entries: &[usize],
+    filled: &[bool],
+    x: &mut [u64],
+    z: &mut [u64],
+    phases: &mut [u8],
+    vacuum: &mut [u64],
+    room: &mut [u64],
+) -> Answer
+    ensures { λ r. ⌜ FlatBuilt (given leaves modes qubits (now (entries .entry)) (now (filled .entry)) (now (x .entry)) (now (z .entry)) (now (phases .entry)) (now (vacuum .entry)) (now (room .entry))) r (now (x .exit)) (now (z .exit)) (now (phases .exit)) (now (vacuum .exit)) (now (room .exit)) ⌝ }
+{
+    if bad_size(entries, modes, qubits) {
+        return Answer::Refused(Refusal::Size);
+    }
+    let w = dense_block::words_for(qubits);
+    if flat_short(
+        modes,
+        w,
+        entries.len(),
+        filled.len(),
+        x.len(),
+        z.len(),
+        phases.len(),
+        vacuum.len(),
+        room.len(),
+    ) {
+        return Answer::Refused(Refusal::Short);
+    }
+    dense_block::clear(room, 4 * modes * w);
+    building::build_within(
+        leaves,
+        entries,
+        filled,
+        modes,
+        qubits,
+        w,
+        x,
+        z,
+        phases,
+        vacuum,
+    )
+}
+
+// Builds a flatpack with leaves. Entry i, of `modes`, is the numbers 4i (its qubit), 4i + 1, 4i + 2 and 4i + 3 (its X, Y and Z slots) of entries; a slot is empty
+// if its place 3i, 3i + 1 or 3i + 2 of filled is false. Done: the X and Z parts are in the first 2·modes·w words of x and z, w being ceil(qubits / 64), the phases
+// in the first 2·modes of phases, and the first w words of vacuum are zero. Refused: the outputs are as they were, but 13 leaves zeros over them. The first
+// 4·modes·w words of room are zero after every call that got past 1 and 2.
+pub fn from_flatpack(
+    modes: usize,
+    qubits: usize,
+    entries: &[usize],
+    filled: &[bool],
+    x: &mut [u64],
+    z: &mut [u64],
+    phases: &mut [u8],
+    vacuum: &mut [u64],
+    room: &mut [u64],
+) -> Answer
+    ensures { λ r. ⌜ FlatBuilt (given true modes qubits (now (entries .entry)) (now (filled .entry)) (now (x .entry)) (now (z .entry)) (now (phases .entry)) (now (vacuum .entry)) (now (room .entry))) r (now (x .exit)) (now (z .exit)) (now (phases .exit)) (now (vacuum .exit)) (now (room .exit)) ⌝ }
+{
+    from_entries(
+        true,
+        modes,
+        qubits,
+        entries,
+        filled,
+        x,
+        z,
+        phases,
+        vacuum,
+        room,
+    )
+}
+
+// The same, naive: a number that is no entry's qubit is ignored, and the leaves are at the ends of Z chains.
+pub fn from_flatpack_naive(
+    modes: usize,
+    qubits: usize,
+    entries: &[usize],
+    filled: &[bool],
+    x: &mut [u64],
+    z: &mut [u64],
+    phases: &mut [u8],
+    vacuum: &mut [u64],
+    room: &mut [u64],
+) -> Answer
+    ensures { λ r. ⌜ FlatBuilt (given false modes qubits (now (entries .entry)) (now (filled .entry)) (now (x .entry)) (now (z .entry)) (now (phases .entry)) (now (vacuum .entry)) (now (room .entry))) r (now (x .exit)) (now (z .exit)) (now (phases .exit)) (now (vacuum .exit)) (now (room .exit)) ⌝ }
+{
+    from_entries(
+        false,
+        modes,
+        qubits,
+        entries,
+        filled,
+        x,
+        z,
+        phases,
+        vacuum,
+        room,
+    )
+}
+
+// Builds a named tree. Its rows keep `modes` columns however many qubits are asked for, and the lengths count `modes` columns; else as from_flatpack.
+pub fn from_name(
+    tree: Named,
+    modes: usize,
+    qubits: usize,
+    x: &mut [u64],
+    z: &mut [u64],
+    phases: &mut [u8],
+    vacuum: &mut [u64],
+    room: &mut [u64],
+) -> Answer
+    ensures { λ r. ⌜ NamedBuilt (asked tree modes qubits (now (x .entry)) (now (z .entry)) (now (phases .entry)) (now (vacuum .entry)) (now (room .entry))) r (now (x .exit)) (now (z .exit)) (now (phases .exit)) (now (vacuum .exit)) (now (room .exit)) ⌝ }
+{
+    if either_outside(modes, qubits) {
+        return Answer::Refused(Refusal::Size);
+    }
+    let w = dense_block::words_for(modes);
+    if outputs_short(
+        modes,
+        w,
+        x.len(),
+        z.len(),
+        phases.len(),
+        vacuum.len(),
+        room.len(),
+    ) {
+        return Answer::Refused(Refusal::Short);
+    }
+    dense_block::clear(room, 4 * modes * w);
+    if qubits < modes {
+        return Answer::Refused(Refusal::Qubits);
+    }
+    building::build_named(tree, modes, w, x, z, phases, vacuum)
 }
