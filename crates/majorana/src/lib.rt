@@ -146,7 +146,7 @@ pub fn determine_vacuum_state(
 ) -> Answer
     ensures { λ r. ⌜ Solves (given modes qubits (now (x .entry)) (now (z .entry)) (now (phases .entry))) (now (vacuum .entry)) (now (room .entry)) r (now (vacuum .exit)) (now (room .exit)) ⌝ }
 {
-    if rows::bad_size(modes, qubits) {
+    if bad_size(modes, qubits) {
         return Answer::Refused(Refusal::Size);
     }
     let w = dense_block::words_for(qubits);
@@ -182,7 +182,7 @@ pub fn new(
 ) -> Answer
     ensures { λ r. ⌜ Makes (given modes qubits (now (x .entry)) (now (z .entry)) (now (phases .entry))) (now (vacuum .entry)) (now (room .entry)) r (now (vacuum .exit)) (now (room .exit)) ⌝ }
 {
-    if rows::bad_size(modes, qubits) {
+    if bad_size(modes, qubits) {
         return Answer::Refused(Refusal::Size);
     }
     let w = dense_block::words_for(qubits);
