@@ -61,6 +61,25 @@ RopethistleAnswer ropethistle_check_rows(size_t modes, size_t qubits,
     const uint64_t *x, size_t x_len, const uint64_t *z, size_t z_len, const uint8_t *phases, size_t phases_len,
     const uint64_t *vacuum, size_t vacuum_len, uint64_t *room, size_t room_len);
 
+/* Solves the vacuum rule: writes to vacuum (w words) the solution that is 0 in each column that is a xor of columns before it. It looks at pairs of rows only.
+ * room: n * (w + 1) words. 1, 2, 17, 12. */
+RopethistleAnswer ropethistle_determine_vacuum_state(size_t modes, size_t qubits,
+    const uint64_t *x, size_t x_len, const uint64_t *z, size_t z_len, const uint8_t *phases, size_t phases_len,
+    uint64_t *vacuum, size_t vacuum_len, uint64_t *room, size_t room_len);
+
+/* Solves the vacuum rule, then checks the rows, then the vacuum; writes the vacuum (w words). room: 4n * w words. 1, 2, 17, 12, 10, 11, 13. */
+RopethistleAnswer ropethistle_new(size_t modes, size_t qubits,
+    const uint64_t *x, size_t x_len, const uint64_t *z, size_t z_len, const uint8_t *phases, size_t phases_len,
+    uint64_t *vacuum, size_t vacuum_len, uint64_t *room, size_t room_len);
+
+/* New mode i has the old rows of mode map[i] (n numbers), and the same vacuum: written to ox, oz, ophases and ovacuum, which are as long as what they are written from.
+ * Rows and vacuum are checked first. room: 4n * w words. 1, 2, 17, 10, 11, 13. */
+RopethistleAnswer ropethistle_apply_mode_enumeration(size_t modes, size_t qubits,
+    const uint64_t *x, size_t x_len, const uint64_t *z, size_t z_len, const uint8_t *phases, size_t phases_len,
+    const uint64_t *vacuum, size_t vacuum_len, const size_t *map, size_t map_len,
+    uint64_t *ox, size_t ox_len, uint64_t *oz, size_t oz_len, uint8_t *ophases, size_t ophases_len, uint64_t *ovacuum, size_t ovacuum_len,
+    uint64_t *room, size_t room_len);
+
 /* Encodes list (ceil(n / 64) words) from the vacuum; writes the string to out (w words). 1, 2, 17, 15. */
 RopethistlePhase ropethistle_try_encode(size_t modes, size_t qubits,
     const uint64_t *x, size_t x_len, const uint64_t *z, size_t z_len, const uint8_t *phases, size_t phases_len,
@@ -87,6 +106,26 @@ RopethistlePhase ropethistle_multiply(size_t columns,
     uint8_t left, const uint64_t *lx, size_t lx_len, const uint64_t *lz, size_t lz_len,
     uint8_t right, const uint64_t *rx, size_t rx_len, const uint64_t *rz, size_t rz_len,
     uint64_t *ox, size_t ox_len, uint64_t *oz, size_t oz_len);
+
+/* Trees: n nodes, whose rows, phases and all-zero vacuum are written to x, z, phases and vacuum. room: 4n * w words. After 1, 2 and 3 the order is 7; then entry by entry,
+ * X, Y, Z: 5, 6, 4, 9; then 8; then 9 for a missing leaf; then 13, which leaves zeros over rows, phases and vacuum.
+ *
+ * A flatpack: entries has 4n numbers, entry i being its qubit at 4i and its X, Y and Z slots at 4i + 1, 4i + 2 and 4i + 3; filled has 3n bytes, 0 if the slot 3i + 0, 1 or 2 is
+ * empty (its number is then not looked at) and 1 if it is not; any other byte is undefined, as it is of a _Bool. A number that is some entry's qubit is a node. With leaves: m = number - (largest
+ * qubit + 1) is X leaf m / 2 if m is even and Y leaf (m - 1) / 2 if it is odd. Naive: it is ignored. */
+RopethistleAnswer ropethistle_from_flatpack(size_t modes, size_t qubits,
+    const size_t *entries, size_t entries_len, const uint8_t *filled, size_t filled_len,
+    uint64_t *x, size_t x_len, uint64_t *z, size_t z_len, uint8_t *phases, size_t phases_len,
+    uint64_t *vacuum, size_t vacuum_len, uint64_t *room, size_t room_len);
+RopethistleAnswer ropethistle_from_flatpack_naive(size_t modes, size_t qubits,
+    const size_t *entries, size_t entries_len, const uint8_t *filled, size_t filled_len,
+    uint64_t *x, size_t x_len, uint64_t *z, size_t z_len, uint8_t *phases, size_t phases_len,
+    uint64_t *vacuum, size_t vacuum_len, uint64_t *room, size_t room_len);
+
+/* A named tree: 0 Jordan-Wigner, 1 parity, 2 Bravyi-Kitaev, 3 JKMN. It keeps n columns however many qubits are asked for: here w is ceil(n / 64). 1, 2, 3. */
+RopethistleAnswer ropethistle_from_name(size_t tree, size_t modes, size_t qubits,
+    uint64_t *x, size_t x_len, uint64_t *z, size_t z_len, uint8_t *phases, size_t phases_len,
+    uint64_t *vacuum, size_t vacuum_len, uint64_t *room, size_t room_len);
 
 /* The MaxNTO rows of n modes on n qubits: x and z 2n * ceil(n / 64) words each, phases 2n. 1, 18, 2. */
 RopethistleAnswer ropethistle_maxnto(size_t modes,

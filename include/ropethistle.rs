@@ -44,6 +44,19 @@ extern "C" {
         modes: usize, qubits: usize, x: *const u64, x_len: usize, z: *const u64, z_len: usize, phases: *const u8, phases_len: usize,
         vacuum: *const u64, vacuum_len: usize, room: *mut u64, room_len: usize,
     ) -> Answer;
+    pub fn ropethistle_determine_vacuum_state(
+        modes: usize, qubits: usize, x: *const u64, x_len: usize, z: *const u64, z_len: usize, phases: *const u8, phases_len: usize,
+        vacuum: *mut u64, vacuum_len: usize, room: *mut u64, room_len: usize,
+    ) -> Answer;
+    pub fn ropethistle_new(
+        modes: usize, qubits: usize, x: *const u64, x_len: usize, z: *const u64, z_len: usize, phases: *const u8, phases_len: usize,
+        vacuum: *mut u64, vacuum_len: usize, room: *mut u64, room_len: usize,
+    ) -> Answer;
+    pub fn ropethistle_apply_mode_enumeration(
+        modes: usize, qubits: usize, x: *const u64, x_len: usize, z: *const u64, z_len: usize, phases: *const u8, phases_len: usize,
+        vacuum: *const u64, vacuum_len: usize, map: *const usize, map_len: usize, ox: *mut u64, ox_len: usize, oz: *mut u64, oz_len: usize,
+        ophases: *mut u8, ophases_len: usize, ovacuum: *mut u64, ovacuum_len: usize, room: *mut u64, room_len: usize,
+    ) -> Answer;
     pub fn ropethistle_try_encode(
         modes: usize, qubits: usize, x: *const u64, x_len: usize, z: *const u64, z_len: usize, phases: *const u8, phases_len: usize,
         vacuum: *const u64, vacuum_len: usize, list: *const u64, list_len: usize, out: *mut u64, out_len: usize,
@@ -64,5 +77,17 @@ extern "C" {
         columns: usize, left: u8, lx: *const u64, lx_len: usize, lz: *const u64, lz_len: usize, right: u8, rx: *const u64, rx_len: usize,
         rz: *const u64, rz_len: usize, ox: *mut u64, ox_len: usize, oz: *mut u64, oz_len: usize,
     ) -> Phase;
+    pub fn ropethistle_from_flatpack(
+        modes: usize, qubits: usize, entries: *const usize, entries_len: usize, filled: *const u8, filled_len: usize, x: *mut u64, x_len: usize,
+        z: *mut u64, z_len: usize, phases: *mut u8, phases_len: usize, vacuum: *mut u64, vacuum_len: usize, room: *mut u64, room_len: usize,
+    ) -> Answer;
+    pub fn ropethistle_from_flatpack_naive(
+        modes: usize, qubits: usize, entries: *const usize, entries_len: usize, filled: *const u8, filled_len: usize, x: *mut u64, x_len: usize,
+        z: *mut u64, z_len: usize, phases: *mut u8, phases_len: usize, vacuum: *mut u64, vacuum_len: usize, room: *mut u64, room_len: usize,
+    ) -> Answer;
+    pub fn ropethistle_from_name(
+        tree: usize, modes: usize, qubits: usize, x: *mut u64, x_len: usize, z: *mut u64, z_len: usize, phases: *mut u8, phases_len: usize,
+        vacuum: *mut u64, vacuum_len: usize, room: *mut u64, room_len: usize,
+    ) -> Answer;
     pub fn ropethistle_maxnto(modes: usize, x: *mut u64, x_len: usize, z: *mut u64, z_len: usize, phases: *mut u8, phases_len: usize) -> Answer;
 }

@@ -1,8 +1,9 @@
 -- The structs of numbers that stand for answers, and what an exported function promises by them.
-use Prim.Native.Nat.{ℕ}
+use Prim.Native.Nat.{ℕ, zero, suc, _≤_, _<_}
 use mathlib.Core.Path.{_≡_}
+use mathlib.Core.List.{List}
 use lib.Ieee.{Float}
-use Rattle.refusal.specs.Numbers.{paper, answered}
+use Rattle.refusal.specs.Numbers.{bare, paper, answered}
 use Rattle.refusal.specs.declared.Answer.{Answer}
 use Rattle.refusal.specs.declared.Refusal.{Refusal}
 use Rattle.pauli.specs.declared.Marked.{Marked}
@@ -14,6 +15,9 @@ use Rattle.majorana.specs.declared.Multiplied.{Multiplied}
 use Rattle.majorana.specs.declared.RealMultiplied.{RealMultiplied}
 use Rattle.majorana.specs.Codes.{encodedPaper}
 use Rattle.majorana.specs.Products.{multipliedPaper, realPaper}
+use Rattle.ternarytree.specs.declared.Named.{Named}
+use Rattle.ternarytree.specs.declared.Named.the-variants.{JordanWigner, Parity, BravyiKitaev, Jkmn}
+use Rattle.ternarytree.specs.Building.{NamedInput, NamedBuilt, asked}
 use Rattle.exports.specs.declared.told.RopethistleAnswer.{RopethistleAnswer}
 use Rattle.exports.specs.declared.told.RopethistlePhase.{RopethistlePhase}
 use Rattle.exports.specs.declared.told.RopethistleProduct.{RopethistleProduct}
@@ -52,3 +56,28 @@ value (Imag x) = x
 
 abbrev pub realTold : RealMultiplied → RopethistleRealProduct
 realTold m = record { number = realPaper m .told .number; phase = realPaper m .phase; imaginary = mark (realPaper m .coefficient); value = value (realPaper m .coefficient) }
+
+-- ---- a named tree, given by a number
+
+-- 0 Jordan-Wigner, 1 parity, 2 Bravyi-Kitaev, 3 JKMN
+abbrev pub namedBy : ℕ → Named
+namedBy zero = JordanWigner
+namedBy (suc zero) = Parity
+namedBy (suc (suc zero)) = BravyiKitaev
+namedBy (suc (suc (suc k))) = Jkmn
+
+-- what is lent, and at exit left, in the X parts, the Z parts, the phases, the vacuum and the work room
+pub record Slices : Type 0 where
+  pub xs : List ℕ
+  pub zs : List ℕ
+  pub ps : List ℕ
+  pub vs : List ℕ
+  pub room : List ℕ
+
+abbrev pub slices : List ℕ → List ℕ → List ℕ → List ℕ → List ℕ → Slices
+slices xs zs ps vs room = record { xs = xs; zs = zs; ps = ps; vs = vs; room = room }
+
+-- a number up to 3 builds its tree; another is refused by 1, and nothing is changed
+pub record NumberBuilt (tree n q : ℕ) (old : Slices) (a : Answer) (new : Slices) : Type 0 where
+  pub named : tree ≤ 3 → NamedBuilt (asked (namedBy tree) n q (old .xs) (old .zs) (old .ps) (old .vs) (old .room)) a (new .xs) (new .zs) (new .ps) (new .vs) (new .room)
+  pub other : 3 < tree → (answered a ≡ bare 1) × (new ≡ old)

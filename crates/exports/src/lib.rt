@@ -7,6 +7,8 @@ mod told;
 
 use pauli::Coefficient;
 use pauli::Phase;
+use refusal::Answer;
+use refusal::Refusal;
 use told::RopethistleAnswer;
 use told::RopethistlePhase;
 use told::RopethistleProduct;
@@ -15,11 +17,15 @@ ghost use mathlib.Core.Path.{_≡_};
 ghost use Rattle.pauli.specs.Product as pauli;
 ghost use Rattle.majorana.specs.Sets.{given};
 ghost use Rattle.majorana.specs.Checks.{vacuumChecked, RowsChecked};
+ghost use Rattle.majorana.specs.Vacuums.{Solves, Makes};
 ghost use Rattle.majorana.specs.Codes.{Encodes, Decodes};
 ghost use Rattle.majorana.specs.Products.{Multiplies, RealMultiplies};
+ghost use Rattle.enumeration.specs.Enumerations.{outs, Enumerated};
 ghost use Rattle.maxnto.specs.Call as maxnto;
+ghost use mathlib.Core.Bool.{true, false};
+ghost use Rattle.ternarytree.specs.Building as trees;
 ghost use Rattle.refusal.specs.Numbers.{answered};
-ghost use Rattle.exports.specs.Behind.{Tells, answerTold, encodedTold, productTold, multipliedTold, realTold};
+ghost use Rattle.exports.specs.Behind.{Tells, answerTold, encodedTold, productTold, multipliedTold, realTold, slices, NumberBuilt};
 
 // majorana::check_vacuum
 #[no_mangle]
@@ -50,6 +56,72 @@ pub extern "C" fn ropethistle_check_rows(
     ensures { λ r. ⌜ Tells answerTold (λ a. RowsChecked (given modes qubits (now (x .entry)) (now (z .entry)) (now (phases .entry))) (now (vacuum .entry)) (now (room .entry)) a (now (room .exit))) r ⌝ }
 {
     told::answer(majorana::check_rows(modes, qubits, x, z, phases, vacuum, room))
+}
+
+// majorana::determine_vacuum_state
+#[no_mangle]
+pub extern "C" fn ropethistle_determine_vacuum_state(
+    modes: usize,
+    qubits: usize,
+    x: &[u64],
+    z: &[u64],
+    phases: &[u8],
+    vacuum: &mut [u64],
+    room: &mut [u64],
+) -> RopethistleAnswer
+    ensures { λ r. ⌜ Tells answerTold (λ a. Solves (given modes qubits (now (x .entry)) (now (z .entry)) (now (phases .entry))) (now (vacuum .entry)) (now (room .entry)) a (now (vacuum .exit)) (now (room .exit))) r ⌝ }
+{
+    told::answer(majorana::determine_vacuum_state(modes, qubits, x, z, phases, vacuum, room))
+}
+
+// majorana::new
+#[no_mangle]
+pub extern "C" fn ropethistle_new(
+    modes: usize,
+    qubits: usize,
+    x: &[u64],
+    z: &[u64],
+    phases: &[u8],
+    vacuum: &mut [u64],
+    room: &mut [u64],
+) -> RopethistleAnswer
+    ensures { λ r. ⌜ Tells answerTold (λ a. Makes (given modes qubits (now (x .entry)) (now (z .entry)) (now (phases .entry))) (now (vacuum .entry)) (now (room .entry)) a (now (vacuum .exit)) (now (room .exit))) r ⌝ }
+{
+    told::answer(majorana::new(modes, qubits, x, z, phases, vacuum, room))
+}
+
+// enumeration::apply_mode_enumeration
+#[no_mangle]
+pub extern "C" fn ropethistle_apply_mode_enumeration(
+    modes: usize,
+    qubits: usize,
+    x: &[u64],
+    z: &[u64],
+    phases: &[u8],
+    vacuum: &[u64],
+    map: &[usize],
+    ox: &mut [u64],
+    oz: &mut [u64],
+    ophases: &mut [u8],
+    ovacuum: &mut [u64],
+    room: &mut [u64],
+) -> RopethistleAnswer
+    ensures { λ r. ⌜ Tells answerTold (λ a. Enumerated (given modes qubits (now (x .entry)) (now (z .entry)) (now (phases .entry))) (now (vacuum .entry)) (now (map .entry)) (outs (now (ox .entry)) (now (oz .entry)) (now (ophases .entry)) (now (ovacuum .entry)) (now (room .entry))) a (outs (now (ox .exit)) (now (oz .exit)) (now (ophases .exit)) (now (ovacuum .exit)) (now (room .exit)))) r ⌝ }
+{
+    told::answer(enumeration::apply_mode_enumeration(
+        modes,
+        qubits,
+        x,
+        z,
+        phases,
+        vacuum,
+        map,
+        ox,
+        oz,
+        ophases,
+        ovacuum,
+        room,
+    ))
 }
 
 // majorana::try_encode
@@ -142,6 +214,91 @@ pub extern "C" fn ropethistle_multiply(
     let l = Phase { power: left };
     let r = Phase { power: right };
     told::product(pauli::multiply(columns, l, lx, lz, r, rx, rz, ox, oz))
+}
+
+// ternarytree::from_flatpack
+#[no_mangle]
+pub extern "C" fn ropethistle_from_flatpack(
+    modes: usize,
+    qubits: usize,
+    entries: &[usize],
+    filled: &[bool],
+    x: &mut [u64],
+    z: &mut [u64],
+    phases: &mut [u8],
+    vacuum: &mut [u64],
+    room: &mut [u64],
+) -> RopethistleAnswer
+    ensures { λ r. ⌜ Tells answerTold (λ a. trees.FlatBuilt (trees.given true modes qubits (now (entries .entry)) (now (filled .entry)) (now (x .entry)) (now (z .entry)) (now (phases .entry)) (now (vacuum .entry)) (now (room .entry))) a (now (x .exit)) (now (z .exit)) (now (phases .exit)) (now (vacuum .exit)) (now (room .exit))) r ⌝ }
+{
+    told::answer(ternarytree::from_flatpack(
+        modes,
+        qubits,
+        entries,
+        filled,
+        x,
+        z,
+        phases,
+        vacuum,
+        room,
+    ))
+}
+
+// ternarytree::from_flatpack_naive
+#[no_mangle]
+pub extern "C" fn ropethistle_from_flatpack_naive(
+    modes: usize,
+    qubits: usize,
+    entries: &[usize],
+    filled: &[bool],
+    x: &mut [u64],
+    z: &mut [u64],
+    phases: &mut [u8],
+    vacuum: &mut [u64],
+    room: &mut [u64],
+) -> RopethistleAnswer
+    ensures { λ r. ⌜ Tells answerTold (λ a. trees.FlatBuilt (trees.given false modes qubits (now (entries .entry)) (now (filled .entry)) (now (x .entry)) (now (z .entry)) (now (phases .entry)) (now (vacuum .entry)) (now (room .entry))) a (now (x .exit)) (now (z .exit)) (now (phases .exit)) (now (vacuum .exit)) (now (room .exit))) r ⌝ }
+{
+    told::answer(ternarytree::from_flatpack_naive(
+        modes,
+        qubits,
+        entries,
+        filled,
+        x,
+        z,
+        phases,
+        vacuum,
+        room,
+    ))
+}
+
+// ternarytree::from_name, the tree given by a number: 0 Jordan-Wigner, 1 parity, 2 Bravyi-Kitaev, 3 JKMN; another is refused by 1.
+#[no_mangle]
+pub extern "C" fn ropethistle_from_name(
+    tree: usize,
+    modes: usize,
+    qubits: usize,
+    x: &mut [u64],
+    z: &mut [u64],
+    phases: &mut [u8],
+    vacuum: &mut [u64],
+    room: &mut [u64],
+) -> RopethistleAnswer
+    ensures { λ r. ⌜ Tells answerTold (λ a. NumberBuilt tree modes qubits (slices (now (x .entry)) (now (z .entry)) (now (phases .entry)) (now (vacuum .entry)) (now (room .entry))) a (slices (now (x .exit)) (now (z .exit)) (now (phases .exit)) (now (vacuum .exit)) (now (room .exit)))) r ⌝ }
+{
+    if 3 < tree {
+        return told::answer(Answer::Refused(Refusal::Size));
+    }
+    told::answer(ternarytree::from_name(
+        told::named(tree),
+        modes,
+        qubits,
+        x,
+        z,
+        phases,
+        vacuum,
+        room,
+    ))
 }
 
 // maxnto::maxnto

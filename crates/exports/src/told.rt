@@ -7,8 +7,10 @@ use pauli::Marked;
 use pauli::Product;
 use refusal::Answer;
 use refusal::Refusal;
+use ternarytree::Named;
 ghost use mathlib.Core.Path.{_≡_};
-ghost use Rattle.exports.specs.Behind.{refusalTold, answerTold, encodedTold, productTold, multipliedTold, realTold, mark, value};
+ghost use Prim.Native.Nat.{_≤_};
+ghost use Rattle.exports.specs.Behind.{refusalTold, answerTold, encodedTold, productTold, multipliedTold, realTold, mark, value, namedBy};
 
 // The number of an answer, and the pair of 10; 0 and 0 in every other answer.
 #[repr(C)]
@@ -162,4 +164,21 @@ pub fn real(m: RealMultiplied) -> RopethistleRealProduct
             value: 0.0,
         },
     }
+}
+
+// The tree of a number.
+pub fn named(tree: usize) -> Named
+    requires { ⌜ tree ≤ 3 ⌝ }
+    ensures { λ r. ⌜ r ≡ namedBy tree ⌝ }
+{
+    if tree == 0 {
+        return Named::JordanWigner;
+    }
+    if tree == 1 {
+        return Named::Parity;
+    }
+    if tree == 2 {
+        return Named::BravyiKitaev;
+    }
+    Named::Jkmn
 }
