@@ -64,6 +64,50 @@ static void good(void) {
     TEST(mp[0] == 0 && mp[1] == 1 && mp[2] == 0 && mp[3] == 1);
 }
 
+/* trees: 01's example of two entries, the named trees, refusals that leave zeros and that leave all as it was */
+static void trees(void) {
+    static const size_t entries[8] = {0, 2, 3, 1, 1, 4, 5, 99};
+    static const uint8_t filled[6] = {1, 1, 1, 1, 1, 0};
+    uint64_t *x = words(4, 7), *z = words(4, 7), *v = words(1, 7), *room = words(8, 7);
+    uint8_t *p = lent(4);
+    RopethistleAnswer a = ropethistle_from_flatpack(2, 2, entries, 8, filled, 6, x, 4, z, 4, p, 4, v, 1, room, 8);
+    TEST(a.number == 0 && !memcmp(x, XS, 32) && !memcmp(z, ZS, 32) && !memcmp(p, PS, 4) && v[0] == 0 && room[0] == 0 && room[7] == 0);
+    memset(x, 1, 32);
+    a = ropethistle_from_flatpack_naive(2, 2, entries, 8, filled, 6, x, 4, z, 4, p, 4, v, 1, room, 8);
+    TEST(a.number == 0 && !memcmp(x, XS, 32));
+    for (size_t tree = 0; tree < 4; tree++) TEST(ropethistle_from_name(tree, 2, 2, x, 4, z, 4, p, 4, v, 1, room, 8).number == 0);
+    memset(x, 1, 32);
+    TEST(ropethistle_from_name(4, 2, 2, x, 4, z, 4, p, 4, v, 1, room, 8).number == 1 && x[0] == 0x0101010101010101);
+    TEST(ropethistle_from_name(0, 2, 1, x, 4, z, 4, p, 4, v, 1, room, 8).number == 3 && x[0] == 0x0101010101010101);
+    TEST(ropethistle_from_name(0, 2, 2, x, 3, z, 4, p, 4, v, 1, room, 8).number == 2);
+    TEST(ropethistle_from_name(0, 2, 2, NULL, 0, NULL, 0, NULL, 0, NULL, 0, NULL, 0).number == 2);
+    TEST(ropethistle_from_flatpack(2, 2, NULL, 0, NULL, 0, x, 4, z, 4, p, 4, v, 1, room, 8).number == 2);
+    TEST(ropethistle_from_flatpack(0, 2, NULL, 0, NULL, 0, NULL, 0, NULL, 0, NULL, 0, NULL, 0, NULL, 0).number == 1);
+    /* X and Y leaf exchanged: 13, and zeros are left */
+    static const size_t turned[4] = {0, 2, 1, 0};
+    static const uint8_t two[3] = {1, 1, 0};
+    a = ropethistle_from_flatpack(1, 1, turned, 4, two, 3, x, 2, z, 2, p, 2, v, 1, room, 4);
+    TEST(a.number == 13 && x[0] == 0 && x[1] == 0 && x[2] == 0x0101010101010101);
+}
+
+static void solving(void) {
+    uint64_t *v = words(1, 7), *room = words(8, 7), *ox = words(4, 7), *oz = words(4, 7), *ov = words(1, 7);
+    uint8_t *op = lent(4), turned[2] = {0, 3};
+    TEST(ropethistle_determine_vacuum_state(1, 1, XS, 2, ZS, 2, turned, 2, v, 1, room, 2).number == 0 && v[0] == 1 && room[1] == 0 && room[2] == 7);
+    TEST(ropethistle_determine_vacuum_state(1, 1, XS, 2, ZS, 2, turned, 2, v, 1, NULL, 0).number == 2);
+    turned[1] = 2;
+    v[0] = 9;
+    TEST(ropethistle_determine_vacuum_state(1, 1, XS, 2, ZS, 2, turned, 2, v, 1, room, 2).number == 12 && v[0] == 9);
+    TEST(ropethistle_new(ROWS(0), v, 1, room, 8).number == 0 && v[0] == 0 && room[7] == 0);
+    TEST(ropethistle_new(ROWS(0), NULL, 0, room, 8).number == 2);
+    static const size_t map[2] = {1, 0}, same[2] = {1, 1};
+    RopethistleAnswer a = ropethistle_apply_mode_enumeration(ROWS(0), v, 1, map, 2, ox, 4, oz, 4, op, 4, ov, 1, room, 8);
+    TEST(a.number == 0 && ox[0] == X[2] && oz[1] == Z[3] && ox[2] == X[0] && op[3] == P[1] && ov[0] == 0);
+    ox[0] = 7;
+    TEST(ropethistle_apply_mode_enumeration(ROWS(0), v, 1, same, 2, ox, 4, oz, 4, op, 4, ov, 1, room, 8).number == 17 && ox[0] == 7);
+    TEST(ropethistle_apply_mode_enumeration(ROWS(0), v, 1, NULL, 0, ox, 4, oz, 4, op, 4, ov, 1, room, 8).number == 2);
+}
+
 static void refused(void) {
     uint64_t v = 0, out = 7;
     static const uint64_t same[4] = {1, 1, 1, 1}, none[4] = {0, 0, 0, 0};
@@ -127,6 +171,8 @@ static void largest(void) {
 int main(void) {
     X = copied(XS, 4), Z = copied(ZS, 4), P = memcpy(lent(4), PS, 4);
     good();
+    trees();
+    solving();
     refused();
     lengths();
     largest();

@@ -90,6 +90,20 @@ fn main() {
         RealProduct { number: 0, phase: 0, imaginary: 0, value: 2.0 }, Product { number: 0, phase: 0, re: 2.0, im: 0.0 }, 0, 0,
     ));
 
+    // a named tree, and a number that names none
+    let (x, z, v, room) = (lent(&[7; 4]), lent(&[7; 4]), lent(&[7]), lent(&[7; 8]));
+    let mut p = [7u8; 4];
+    let mut named = |tree: usize| unsafe {
+        ropethistle_from_name(
+            tree, 2, 2, x.as_mut_ptr(), 4, z.as_mut_ptr(), 4, p.as_mut_ptr(), 4, v.as_mut_ptr(), 1, room.as_mut_ptr(), 8,
+        )
+    };
+    assert_eq!(named(4).number, 1);
+    assert_eq!(named(0), done);
+    assert_eq!((&x[..], &z[..], p, v[0]), (&X[..], &Z[..], P, 0));
+    let a = unsafe { ropethistle_new(2, 2, X.as_ptr(), 4, Z.as_ptr(), 4, P.as_ptr(), 4, v.as_mut_ptr(), 1, room.as_mut_ptr(), 8) };
+    assert_eq!(a, done);
+
     // one short, and empty: nothing is written
     let mut room = lent(&[7; 7]);
     assert_eq!(check(&X, &[0], &mut room).number, 2);

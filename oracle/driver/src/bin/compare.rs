@@ -5,12 +5,13 @@
 use driver::*;
 use ferrmion_core::encode::majorana::{Encode, MajoranaEncoding, MajoranaEncodingError as E, TryEncode};
 use ferrmion_core::encode::maxnto::maxnto_symplectic_matrix;
-use ferrmion_core::encode::ternarytree::TernaryTree;
+use ferrmion_core::encode::ternarytree::{TernaryTree, TernaryTreeError};
 use ferrmion_core::hamiltonians::QubitHamiltonian;
 use ferrmion_core::operators::{MajoranaProduct, SymplecticOperator};
 use ferrmion_core::states::{FockState, ZBasisEnsemble};
 use num_complex::Complex64;
 use std::collections::BTreeMap;
+use std::panic::{catch_unwind, AssertUnwindSafe};
 
 #[derive(Default)]
 struct Tally {
@@ -80,20 +81,6 @@ fn stands(number: usize, error: &str) -> bool {
     matches!((number, error), (10 | 11, "InvalidOperatorsError") | (13, "InvalidVacuumStateError") | (12, "NoVacuumStateError") | (15, "NullStateError"))
 }
 
-/// The first pair of rows that commute, by the Rust's own counts.
-fn commuting(e: &MajoranaEncoding) -> (usize, usize) {
-    let m = &e.operators;
-    for i in 0..m.n_rows {
-        for j in i + 1..m.n_rows {
-            let k = m.x_block.get_term(i).and_count_ones(&m.z_block.get_term(j)) + m.z_block.get_term(i).and_count_ones(&m.x_block.get_term(j));
-            if k % 2 == 0 {
-                return (i, j);
-            }
-        }
-    }
-    (0, 0)
-}
-
 fn check_rows(t: &mut Tally, r: &mut Random, s: &Set, v: &[u64]) {
     let need = 4 * s.n * s.w();
     let (mut room, was) = lent(r, need);
@@ -118,6 +105,69 @@ fn check_vacuum(t: &mut Tally, s: &Set, v: &[u64]) {
     let ok = (0..s.n).all(|i| e.try_encode(single(i)).is_ok());
     let listed = (a.number == 13 && s.some_odd()).then_some(ODD);
     t.judge("check_vacuum", a.number, if ok { "Ok" } else { "NullStateError" }, a.number == if ok { 0 } else { 13 }, listed, || format!("{s:?} vacuum {v:?}"));
+}
+
+fn solve(t: &mut Tally, r: &mut Random, s: &Set) {
+    let need = s.n * (s.w() + 1);
+    let (mut room, room_was) = lent(r, need);
+    let (mut v, was) = lent(r, s.w());
+    let a = ours::determine_vacuum_state(s, &mut v, &mut room);
+    let (rust, new) = match MajoranaEncoding::determine_vacuum_state(&s.to_rust()) {
+        Ok(z) => ("Ok", Some(packed(&z.state_bools(), s.q))),
+        Err(e) => (majorana(&e), None),
+    };
+    let equal = if rust == "Ok" { a.number == 0 } else { stands(a.number, rust) } && left(&v, &was, new.as_deref()) && cleared(&room, &room_was, need);
+    t.judge("determine_vacuum_state", a.number, rust, equal, None, || format!("{s:?} answer {a:?} {v:?} rust {new:?}"));
+}
+
+fn new(t: &mut Tally, r: &mut Random, s: &Set) {
+    let need = 4 * s.n * s.w();
+    let (mut room, room_was) = lent(r, need);
+    let (mut v, was) = lent(r, s.w());
+    let a = ours::new(s, &mut v, &mut room);
+    let m = s.to_rust();
+    let pair = if a.number == 10 { commuting(&s.raw(&r.bits(s.q))) } else { (0, 0) };
+    let (rust, new) = match MajoranaEncoding::new(m) {
+        Ok(e) => ("Ok", Some(packed(&e.vacuum_state.state_bools(), s.q))),
+        Err(e) => (majorana(&e), None),
+    };
+    let equal = if rust == "Ok" { a.number == 0 } else { stands(a.number, rust) }
+        && (a.first, a.second) == pair
+        && left(&v, &was, new.as_deref())
+        && cleared(&room, &room_was, need);
+    t.judge("new", a.number, rust, equal, None, || format!("{s:?} answer {a:?} {v:?} rust {new:?}"));
+}
+
+/// The Rust enumerates an encoding, which it has checked when it made it.
+fn enumerate(t: &mut Tally, r: &mut Random, s: &Set, v: &[u64]) {
+    let map = r.permutation(s.n);
+    let need = 4 * s.n * s.w();
+    let (mut room, room_was) = lent(r, need);
+    let (mut ov, ov_was) = lent(r, s.w());
+    let mut o = Set { n: s.n, q: s.q, x: lent(r, s.x.len()).0, z: lent(r, s.z.len()).0, p: vec![77; s.p.len() + 1] };
+    let was = o.clone();
+    let a = ours::apply_mode_enumeration(s, v, &map, &mut o, &mut ov, &mut room);
+    let e = s.raw(v);
+    let pair = if a.number == 10 { commuting(&e) } else { (0, 0) };
+    let (rust, new) = match MajoranaEncoding::with_vacuum(e.operators, e.vacuum_state) {
+        Ok(e) => ("Ok", Some(e.apply_mode_enumeration(map.clone()))),
+        Err(e) => (majorana(&e), None),
+    };
+    let rows = match &new {
+        None => o == was && ov == ov_was,
+        Some(e) => {
+            let m = Set::from_rust(&e.operators);
+            left(&o.x, &was.x, Some(&m.x))
+                && left(&o.z, &was.z, Some(&m.z))
+                && o.p[..m.p.len()] == m.p
+                && o.p[m.p.len()] == 77
+                && left(&ov, &ov_was, Some(&packed(&e.vacuum_state.state_bools(), s.q)))
+        }
+    };
+    let tidy = cleared(&room, &room_was, need) && (a.first, a.second) == pair;
+    let equal = if rust == "Ok" { a.number == 0 } else { stands(a.number, rust) } && rows && tidy;
+    let listed = (tidy && a.number == 13 && s.some_odd() && o == was && ov == ov_was).then_some(ODD);
+    t.judge("apply_mode_enumeration", a.number, rust, equal, listed, || format!("{s:?} vacuum {v:?} map {map:?} answer {a:?}"));
 }
 
 fn encode(t: &mut Tally, r: &mut Random, s: &Set, e: &MajoranaEncoding, v: &[u64], list: &[u64]) -> Option<Vec<u64>> {
@@ -205,136 +255,150 @@ fn maxnto(t: &mut Tally, r: &mut Random, n: usize) {
     t.judge("maxnto", a.number, rust, equal, None, || format!("{n} answer {a:?}"));
 }
 
-/// The MaxNTO rows, by the Rust.
-fn maxnto_rows(n: usize) -> Set {
-    let (p, m) = maxnto_symplectic_matrix(n).unwrap();
-    let mut s = Set::zeros(n, n);
-    let w = s.w();
-    for k in 0..2 * n {
-        s.p[k] = p[k];
-        for j in 0..n {
-            if m[[k, j]] {
-                flip(&mut s.x[k * w..], j);
-            }
-            if m[[k, n + j]] {
-                flip(&mut s.z[k * w..], j);
-            }
-        }
-    }
-    s
-}
-
-/// Row sets that the Rust accepts: its named trees up to 128 modes, MaxNTO's rows for even n, and Jordan-Wigner by its formula at any size.
-fn good(r: &mut Random, n: usize) -> Set {
-    let tree = |f: fn(usize) -> TernaryTree| Set::from_rust(&f(n).build_encoding(n).unwrap().operators);
-    match r.below(6) {
-        0 if n <= 128 => tree(TernaryTree::naive_jordan_wigner),
-        1 if n <= 128 => tree(TernaryTree::naive_parity),
-        2 if n <= 128 => tree(TernaryTree::naive_bravyi_kitaev),
-        3 if n <= 128 => tree(TernaryTree::naive_jkmn),
-        4 if n % 2 == 0 => maxnto_rows(n),
-        _ => Set::jordan_wigner(n),
+fn tree_error(e: &TernaryTreeError) -> &'static str {
+    use TernaryTreeError::*;
+    match e {
+        FlatPackError(_) => "FlatPackError",
+        InvalidChildError(..) => "InvalidChildError",
+        InvalidParentError(..) => "InvalidParentError",
+        SelfChildError(..) => "SelfChildError",
+        LeafSymplecticError(..) => "LeafSymplecticError",
+        BuildEncodingError(..) => "BuildEncodingError",
+        QubitReassignmentError => "QubitReassignmentError",
+        EncodingValidationError(m) => majorana(m),
     }
 }
 
-/// Columns added to each other as by CNOT, on all rows, which keeps rows anticommuting and X parts paired; phases of random modes turned, which moves the vacuum.
-fn scramble(r: &mut Random, s: &mut Set) {
-    let w = s.w();
-    if s.q > 1 {
-        for _ in 0..r.below(2 * s.q + 1) {
-            let a = r.below(s.q);
-            let b = (a + 1 + r.below(s.q - 1)) % s.q;
-            for k in 0..2 * s.n {
-                let (xa, zb) = (bit(s.row_x(k), a), bit(s.row_z(k), b));
-                if xa {
-                    flip(&mut s.x[k * w..], b);
-                }
-                if zb {
-                    flip(&mut s.z[k * w..], a);
-                }
-            }
-        }
+/// The slices lent to a builder, and what they held.
+struct Lent {
+    set: Set,
+    v: Vec<u64>,
+    room: Vec<u64>,
+}
+
+impl Lent {
+    fn new(r: &mut Random, n: usize, columns: usize) -> Lent {
+        let w = words_for(columns);
+        let set = Set { n, q: columns, x: lent(r, 2 * n * w).0, z: lent(r, 2 * n * w).0, p: vec![77; 2 * n + 1] };
+        Lent { set, v: lent(r, w).0, room: lent(r, 4 * n * w).0 }
     }
-    for _ in 0..r.below(s.n + 1) {
-        let i = r.below(s.n);
-        match r.below(3) {
-            0 => s.p[2 * i] = (s.p[2 * i] + 2) % 4,
-            1 => s.p[2 * i + 1] = (s.p[2 * i + 1] + 2) % 4,
-            _ => {
-                s.p[2 * i] = (s.p[2 * i] + 1) % 4;
-                s.p[2 * i + 1] = (s.p[2 * i + 1] + 1) % 4;
+    /// What a builder that answers `number` has left: these rows, zeros (13) or all as it was.
+    fn left(&self, was: &(Set, Vec<u64>, Vec<u64>), number: usize, rows: Option<&Set>) -> bool {
+        let (n, w) = (self.set.n, self.set.w());
+        let zeros = Set::zeros(n, self.set.q);
+        let new = match number {
+            0 => rows,
+            13 => Some(&zeros),
+            _ => None,
+        };
+        let outputs = match new {
+            None => (&self.set, &self.v) == (&was.0, &was.1),
+            Some(s) => {
+                left(&self.set.x, &was.0.x, Some(&s.x))
+                    && left(&self.set.z, &was.0.z, Some(&s.z))
+                    && self.set.p[..2 * n] == s.p
+                    && self.set.p[2 * n] == 77
+                    && left(&self.v, &was.1, Some(&vec![0; w]))
+            }
+        };
+        outputs && if matches!(number, 1 | 2) { self.room == was.2 } else { cleared(&self.room, &was.2, 4 * n * w) }
+    }
+    fn was(&self) -> (Set, Vec<u64>, Vec<u64>) {
+        (self.set.clone(), self.v.clone(), self.room.clone())
+    }
+}
+
+/// What the Rust makes of a tree: an encoding, an error, or a panic.
+fn built(f: impl FnOnce() -> Result<MajoranaEncoding, TernaryTreeError>) -> (&'static str, Option<MajoranaEncoding>) {
+    match catch_unwind(AssertUnwindSafe(f)) {
+        Ok(Ok(e)) => ("Ok", Some(e)),
+        Ok(Err(e)) => (tree_error(&e), None),
+        Err(_) => ("panic", None),
+    }
+}
+
+const ENDLESS: &str = "the Rust may not end";
+const TWICE: &str = "a leaf used twice";
+const WRAPS: &str = "a leaf number wraps";
+
+fn flatpack(t: &mut Tally, r: &mut Random, leaves: bool, f: &Flat, q: usize) {
+    let n = f.len();
+    let (entries, filled) = lent_flat(f, r.below(8));
+    let mut o = Lent::new(r, n, q);
+    let was = o.was();
+    let a = ours::from_flatpack(leaves, n, q, &entries, &filled, &mut o.set, &mut o.v, &mut o.room);
+    let call = if leaves { "from_flatpack" } else { "from_flatpack_naive" };
+    let input = || format!("leaves {leaves} qubits {q} {f:?} answer {a:?}");
+    if cyclic(f) {
+        let tidy = a.number != 0 && o.left(&was, a.number, None);
+        return t.judge(call, a.number, "-", false, tidy.then_some(ENDLESS), input);
+    }
+    let (rust, e) = built(|| if leaves { TernaryTree::from_flatpack(f) } else { TernaryTree::from_flatpack_naive(f) }?.build_encoding(q));
+    let rows = e.as_ref().map(|e| Set::from_rust(&e.operators));
+    let tidy = o.left(&was, a.number, rows.as_ref());
+    let vacuum = e.as_ref().is_none_or(|e| !e.vacuum_state.state_bools().iter().any(|&b| b));
+    let equal = tidy && vacuum && (a.number == 0) == (rust == "Ok");
+    // 9 for a leaf used twice or too high is a case of its own: the Rust writes over, or wraps
+    let base = f.iter().map(|e| e.0).max().unwrap_or(0) + 1;
+    let named: Vec<usize> = f.iter().map(|e| e.0).collect();
+    let high = f.iter().flat_map(|(_, (x, y, z))| [x, y, z]).flatten().any(|c| !named.contains(c) && *c >= base + 2 * n);
+    let listed = (tidy && leaves && a.number == 9).then_some(if high { WRAPS } else { TWICE });
+    t.judge(call, a.number, rust, equal, listed, input);
+}
+
+fn named(t: &mut Tally, r: &mut Random, tree: usize, n: usize, q: usize) {
+    let mut o = Lent::new(r, n, n);
+    let was = o.was();
+    let a = ours::from_name(tree, n, q, &mut o.set, &mut o.v, &mut o.room);
+    let input = || format!("tree {tree} modes {n} qubits {q} answer {a:?}");
+    if n > 128 {
+        // the Rust has no answer; that it accepts these rows is what can be said
+        let w = words_for(n);
+        let s = Set { n, q: n, x: o.set.x[..2 * n * w].to_vec(), z: o.set.z[..2 * n * w].to_vec(), p: o.set.p[..2 * n].to_vec() };
+        let formula = tree != 0 || s == Set::jordan_wigner(n);
+        let ok = a.number == 0 && o.left(&was, 0, Some(&s)) && formula && MajoranaEncoding::with_vacuum(s.to_rust(), state(&vec![0; w], n)).is_ok();
+        return t.judge("from_name", a.number, "with_vacuum Ok", ok, None, input);
+    }
+    let (rust, e) = built(|| NAMED[tree](n).build_encoding(q));
+    let rows = e.as_ref().map(|e| Set::from_rust(&e.operators));
+    let equal = o.left(&was, a.number, rows.as_ref()) && (a.number == 0) == (rust == "Ok");
+    t.judge("from_name", a.number, rust, equal, None, input);
+}
+
+/// Every flatpack of one and of two entries with small numbers, with leaves and naive.
+fn small_trees(t: &mut Tally, r: &mut Random) {
+    let slot = |k: usize, numbers: &[usize]| if k == 0 { None } else { Some(numbers[k - 1]) };
+    for leaves in [true, false] {
+        let numbers = [0, 1, 2, 3, 4, 5, 6];
+        for code in 0..8usize.pow(3) * 3 * 3 {
+            let d = |k: u32| slot(code / 8usize.pow(k) % 8, &numbers);
+            flatpack(t, r, leaves, &vec![(code / 512 % 3, (d(0), d(1), d(2)))], 1 + code / 512 / 3);
+        }
+        for (a, b, q, numbers) in [(0, 1, 2, [0, 1, 2, 3, 4, 5]), (1, 0, 2, [0, 1, 2, 3, 4, 5]), (0, 2, 3, [0, 2, 3, 4, 5, 6]), (1, 1, 3, [0, 1, 2, 3, 4, 5])] {
+            for code in 0..7usize.pow(6) {
+                let d = |k: u32| slot(code / 7usize.pow(k) % 7, &numbers);
+                flatpack(t, r, leaves, &vec![(a, (d(0), d(1), d(2))), (b, (d(3), d(4), d(5)))], q);
             }
         }
     }
 }
 
-/// More columns than modes, in random places.
-fn widen(r: &mut Random, s: &Set, q: usize) -> Set {
-    let mut t = Set::zeros(s.n, q);
-    t.p = s.p.clone();
-    let to = r.permutation(q);
-    let w = t.w();
-    for k in 0..2 * s.n {
-        for j in 0..s.q {
-            if bit(s.row_x(k), j) {
-                flip(&mut t.x[k * w..], to[j]);
-            }
-            if bit(s.row_z(k), j) {
-                flip(&mut t.z[k * w..], to[j]);
-            }
+/// Random trees of n nodes: naive, with leaves, and each with a fault.
+fn trees(t: &mut Tally, r: &mut Random, n: usize, rounds: usize) {
+    for k in 0..rounds {
+        let q = if k % 2 == 0 { n } else { n + r.below(257 - n).min(70) };
+        let mut f = random_tree(r, n, q);
+        flatpack(t, r, false, &f, q);
+        let mut g = with_leaves(r, &f);
+        flatpack(t, r, true, &g, q);
+        flatpack(t, r, false, &g, q);
+        for _ in 0..3 {
+            damage_tree(r, &mut f, q);
+            flatpack(t, r, false, &f, q);
+            damage_tree(r, &mut g, q);
+            flatpack(t, r, true, &g, q);
         }
     }
-    t
-}
-
-/// One fault in a row set.
-fn damage(r: &mut Random, s: &mut Set) {
-    let (w, k, j) = (s.w(), r.below(2 * s.n), r.below(s.q));
-    let l = r.below(2 * s.n);
-    match r.below(6) {
-        0 => flip(&mut s.x[k * w..], j),
-        1 => flip(&mut s.z[k * w..], j),
-        2 => s.p[k] = (s.p[k] + 1) % 4,
-        3 => s.p[k] = (s.p[k] + 2) % 4,
-        4 => {
-            let (x, z) = (s.row_x(k).to_vec(), s.row_z(k).to_vec());
-            s.x[l * w..(l + 1) * w].copy_from_slice(&x);
-            s.z[l * w..(l + 1) * w].copy_from_slice(&z);
-            s.p[l] = s.p[k];
-        }
-        _ => {
-            flip(&mut s.x[(k / 2 * 2) * w..], j);
-            flip(&mut s.x[(k / 2 * 2 + 1) * w..], j);
-        }
-    }
-}
-
-/// Rows of any bits and phases.
-fn raw(r: &mut Random, n: usize, q: usize) -> Set {
-    let mut s = Set::zeros(n, q);
-    let paired = r.below(4) > 0;
-    for k in 0..2 * n {
-        let (x, z) = (r.bits(q), r.bits(q));
-        let w = s.w();
-        let x = if paired && k % 2 == 1 { s.row_x(k - 1).to_vec() } else { x };
-        s.x[k * w..(k + 1) * w].copy_from_slice(&x);
-        s.z[k * w..(k + 1) * w].copy_from_slice(&z);
-        s.p[k] = if paired && k % 2 == 1 { (s.p[k - 1] + 1 + 2 * r.below(2) as u8) % 4 } else { r.below(4) as u8 };
-    }
-    if r.below(8) == 0 {
-        s.p[r.below(2 * n)] = r.below(4) as u8;
-    }
-    s
-}
-
-/// The vacuum that solves the rule, by the Rust; or any bits.
-fn vacuum(r: &mut Random, s: &Set) -> Vec<u64> {
-    if r.below(8) > 0 {
-        if let Ok(v) = MajoranaEncoding::determine_vacuum_state(&s.to_rust()) {
-            return packed(&v.state_bools(), s.q);
-        }
-    }
-    r.bits(s.q)
 }
 
 fn coefficient(r: &mut Random) -> f64 {
@@ -374,6 +438,9 @@ fn states(t: &mut Tally, r: &mut Random, s: &Set, v: &[u64], rounds: usize) {
 fn checks(t: &mut Tally, r: &mut Random, s: &Set, v: &[u64]) {
     check_rows(t, r, s, v);
     check_vacuum(t, s, v);
+    solve(t, r, s);
+    new(t, r, s);
+    enumerate(t, r, s, v);
 }
 
 /// All row sets of one mode on one and two qubits, at every vacuum, list and string.
@@ -435,6 +502,24 @@ fn main() {
     for n in 1..=256 {
         maxnto(t, r, n);
     }
+    small_trees(t, r);
+    println!("all flatpacks of one and two entries with small numbers: {} cases in all", t.cases);
+    for tree in 0..4 {
+        for n in (1..=64).chain([65, 66, 96, 126, 127, 128, 129, 130, 192, 193, 255, 256]) {
+            named(t, r, tree, n, n);
+            named(t, r, tree, n, n + (256 - n) / 2);
+            if n > 1 && n <= 128 {
+                named(t, r, tree, n, n - 1);
+            }
+        }
+    }
+    for n in 1..=12 {
+        trees(t, r, n, 400 * rounds);
+    }
+    for n in [31, 32, 33, 62, 63, 64, 65, 66, 126, 127, 128] {
+        trees(t, r, n, 4 * rounds);
+    }
+    println!("trees: {} cases in all", t.cases);
     // small sets, many of them
     for k in 0..12_000 * rounds {
         let n = 1 + r.below(4);
@@ -476,7 +561,13 @@ fn main() {
                 damage(r, &mut s);
             }
             let v = vacuum(r, &s);
-            checks(t, r, &s, &v);
+            // the Rust's row check takes long at these sizes
+            if n <= 66 || k % 5 == 2 || k % 5 == 3 {
+                checks(t, r, &s, &v);
+            } else {
+                check_vacuum(t, &s, &v);
+                solve(t, r, &s);
+            }
             states(t, r, &s, &v, 40);
         }
     }
