@@ -4,30 +4,13 @@ use crate::order;
 use refusal::Answer;
 use refusal::Refusal;
 ghost use mathlib.Core.Path.{_≡_};
-ghost use mathlib.Core.List.{[]};
 ghost use Prim.Native.Nat.{_*_, _≤_};
 ghost use lib.ListN.{length};
 ghost use Rattle.refusal.specs.Table.{short};
 ghost use Rattle.dense_block.specs.Words.{wordsFor};
-ghost use Rattle.majorana.specs.Sets.{given, setLent, Fits};
+ghost use Rattle.majorana.specs.Sets.{given, Fits};
 ghost use Rattle.enumeration.specs.Orders.{Maps};
 ghost use Rattle.enumeration.specs.Enumerations.{outs, allLent, Enumerated, Held, Wrote};
-
-// Whether slices of these lengths are too short for rows of w words and their phases.
-fn rows_short(modes: usize, w: usize, x: usize, z: usize, p: usize) -> bool
-    requires { ⌜ (modes ≤ 256) × (w ≤ 4) ⌝ }
-    ensures { λ r. ⌜ r ≡ short (setLent modes w x z p []) ⌝ }
-{
-    let rows = 2 * modes;
-    let size = rows * w;
-    if x < size {
-        return true;
-    }
-    if z < size {
-        return true;
-    }
-    p < rows
-}
 
 // Whether one of the ten slices is too short.
 pub fn too_short(
@@ -47,7 +30,7 @@ pub fn too_short(
     requires { ⌜ (modes ≤ 256) × (w ≤ 4) ⌝ }
     ensures { λ r. ⌜ r ≡ short (allLent modes w x z p v m ox oz op ov room) ⌝ }
 {
-    if rows_short(modes, w, x, z, p) {
+    if majorana::rows_short(modes, w, x, z, p) {
         return true;
     }
     if v < w {
@@ -56,7 +39,7 @@ pub fn too_short(
     if m < modes {
         return true;
     }
-    if rows_short(modes, w, ox, oz, op) {
+    if majorana::rows_short(modes, w, ox, oz, op) {
         return true;
     }
     if ov < w {

@@ -11,10 +11,10 @@ use Rattle.pauli.specs.declared.Marked.the-variants.{Real, Imag}
 use Rattle.pauli.specs.declared.Product.{Product}
 use Rattle.pauli.specs.Product.{productPaper}
 use Rattle.majorana.specs.declared.Encoded.{Encoded}
-use Rattle.majorana.specs.declared.Multiplied.{Multiplied}
-use Rattle.majorana.specs.declared.RealMultiplied.{RealMultiplied}
+use Rattle.products.specs.declared.Multiplied.{Multiplied}
+use Rattle.products.specs.declared.RealMultiplied.{RealMultiplied}
 use Rattle.majorana.specs.Codes.{encodedPaper}
-use Rattle.majorana.specs.Products.{multipliedPaper, realPaper}
+use Rattle.products.specs.Products.{multipliedPaper, realPaper}
 use Rattle.ternarytree.specs.declared.Named.{Named}
 use Rattle.ternarytree.specs.declared.Named.the-variants.{JordanWigner, Parity, BravyiKitaev, Jkmn}
 use Rattle.ternarytree.specs.Building.{NamedInput, NamedBuilt, asked}

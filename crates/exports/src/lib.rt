@@ -19,7 +19,7 @@ ghost use Rattle.majorana.specs.Sets.{given};
 ghost use Rattle.majorana.specs.Checks.{vacuumChecked, RowsChecked};
 ghost use Rattle.majorana.specs.Vacuums.{Solves, Makes};
 ghost use Rattle.majorana.specs.Codes.{Encodes, Decodes};
-ghost use Rattle.majorana.specs.Products.{Multiplies, RealMultiplies};
+ghost use Rattle.products.specs.Products.{Multiplies, RealMultiplies};
 ghost use Rattle.enumeration.specs.Enumerations.{outs, Enumerated};
 ghost use Rattle.maxnto.specs.Call as maxnto;
 ghost use mathlib.Core.Bool.{true, false};
@@ -158,7 +158,7 @@ pub extern "C" fn ropethistle_decode_zbasis_state(
     told::answer(majorana::decode_zbasis_state(modes, qubits, x, z, phases, vacuum, string, out))
 }
 
-// majorana::product
+// products::product
 #[no_mangle]
 pub extern "C" fn ropethistle_product(
     modes: usize,
@@ -175,10 +175,10 @@ pub extern "C" fn ropethistle_product(
     ensures { λ r. ⌜ Tells multipliedTold (λ a. Multiplies (given modes qubits (now (x .entry)) (now (z .entry)) (now (phases .entry))) (now (numbers .entry)) (record { re = re; im = im }) (now (ox .entry)) (now (oz .entry)) a (now (ox .exit)) (now (oz .exit))) r ⌝ }
 {
     let c = Coefficient { re, im };
-    told::multiplied(majorana::product(modes, qubits, x, z, phases, numbers, c, ox, oz))
+    told::multiplied(products::product(modes, qubits, x, z, phases, numbers, c, ox, oz))
 }
 
-// majorana::product_real
+// products::product_real
 #[no_mangle]
 pub extern "C" fn ropethistle_product_real(
     modes: usize,
@@ -193,7 +193,7 @@ pub extern "C" fn ropethistle_product_real(
 ) -> RopethistleRealProduct
     ensures { λ r. ⌜ Tells realTold (λ a. RealMultiplies (given modes qubits (now (x .entry)) (now (z .entry)) (now (phases .entry))) (now (numbers .entry)) c (now (ox .entry)) (now (oz .entry)) a (now (ox .exit)) (now (oz .exit))) r ⌝ }
 {
-    told::real(majorana::product_real(modes, qubits, x, z, phases, numbers, c, ox, oz))
+    told::real(products::product_real(modes, qubits, x, z, phases, numbers, c, ox, oz))
 }
 
 // pauli::multiply

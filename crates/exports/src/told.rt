@@ -1,10 +1,10 @@
 // Answers as structs of numbers.
 
 use majorana::Encoded;
-use majorana::Multiplied;
-use majorana::RealMultiplied;
 use pauli::Marked;
 use pauli::Product;
+use products::Multiplied;
+use products::RealMultiplied;
 use refusal::Answer;
 use refusal::Refusal;
 use ternarytree::Named;

@@ -9,6 +9,3 @@ pub mod CheckLaws
 pub mod CheckAnswers
 pub mod VacuumLaws
 pub mod VacuumAnswers
-pub mod ProductLaws
-pub mod ProductAnswers
-pub mod ProductExamples

@@ -1,10 +1,10 @@
 -- Rows that lie in their slices, and what the tests that every call shares leave known.
 use Prim.Native.Nat.{ℕ, zero, suc, _+_, _*_, _^_, _≤_, _<_}
 use native.Mathlib.Omega.{arith}
-use mathlib.Core.Path.{_≡_, refl}
+use mathlib.Core.Path.{_≡_, refl, sym, _∙_}
 use mathlib.Core.List.{List, [], _∷_}
 use mathlib.Core.Bool.{Bool, true, false, _||_}
-use borrow.Author.Tests.{eqb-false, ltb-false}
+use borrow.Author.Tests.{eqb-false, ltb-false, le-ltb}
 use lib.Dec.{eqb, ltb}
 use lib.ListN.{length, getD, take}
 use Rattle.refusal.specs.Table.{Lent, short}
@@ -14,7 +14,7 @@ use Rattle.refusal.proofs.Searches.{none-at}
 use Rattle.dense_block.specs.Words.{value, wordsFor, termOf, strays}
 use Rattle.dense_block.proofs.Terms.{row-within}
 use Rattle.dense_block.proofs.Strays.{below-of}
-use Rattle.majorana.specs.Sets.{badSize, setLent, badRowAt, badRows, Fits}
+use Rattle.majorana.specs.Sets.{badSize, setLent, manyOrShort, badRowAt, badRows, manyOrBad, Fits}
 
 module _ {n w : ℕ} {xs zs ps : List ℕ} (fits : Fits n w xs zs ps) (k : ℕ) (low : k < 2 * n) where
   pub x-row : k * w + w ≤ length xs
@@ -60,6 +60,11 @@ zeros (suc (suc (suc (suc k)))) = rest k
 
 -- ---- rows that are not bad
 
+-- of sizes that pass 1 the public test of the rows is just that
+pub few-bad : (n q w : ℕ) (xs zs ps : List ℕ) → n ≤ 256 → manyOrBad n q w xs zs ps ≡ badRows n q w xs zs ps
+unfolding manyOrBad
+few-bad n q w xs zs ps a = rw (le-ltb 256 n a)
+
 module _ (n q w : ℕ) (xs zs ps : List ℕ) (h : badRows n q w xs zs ps ≡ false) (k : ℕ) (low : k < 2 * n) where
   good : badRowAt q w xs zs ps k ≡ false
   unfolding badRows
@@ -81,9 +86,14 @@ module _ (n q w : ℕ) (xs zs ps : List ℕ) (h : badRows n q w xs zs ps ≡ fal
 
 -- ---- lengths: the row set's own, and then the call's others
 
-module _ (n w x z p : ℕ) (more : List Lent) where
-  pub set-too-short : short (setLent n w x z p []) ≡ true → short (setLent n w x z p more) ≡ true
-  set-too-short h = go (ltb x (2 * n * w)) (ltb z (2 * n * w)) (ltb p (2 * n)) (short more) h
+-- of sizes that pass 1 the public test of the lengths is just that
+pub few-short : (n w x z p : ℕ) → n ≤ 256 → w ≤ 4 → manyOrShort n w x z p ≡ short (setLent n w x z p [])
+unfolding manyOrShort
+few-short n w x z p a b = rw (le-ltb 256 n a, le-ltb 4 w b)
+
+module _ (n w x z p : ℕ) (few : n ≤ 256) (narrow : w ≤ 4) (more : List Lent) where
+  pub set-too-short : manyOrShort n w x z p ≡ true → short (setLent n w x z p more) ≡ true
+  set-too-short h = go (ltb x (2 * n * w)) (ltb z (2 * n * w)) (ltb p (2 * n)) (short more) (sym (few-short n w x z p few narrow) ∙ h)
     where
       go : (a b c d : Bool) → (a || (b || (c || false))) ≡ true → (a || (b || (c || d))) ≡ true
       go true b c d h = refl
@@ -91,8 +101,8 @@ module _ (n w x z p : ℕ) (more : List Lent) where
       go false false true d h = refl
       go false false false d h = cc
 
-  pub set-long : short (setLent n w x z p []) ≡ false → short (setLent n w x z p more) ≡ short more
-  set-long h = go (ltb x (2 * n * w)) (ltb z (2 * n * w)) (ltb p (2 * n)) (short more) h
+  pub set-long : manyOrShort n w x z p ≡ false → short (setLent n w x z p more) ≡ short more
+  set-long h = go (ltb x (2 * n * w)) (ltb z (2 * n * w)) (ltb p (2 * n)) (short more) (sym (few-short n w x z p few narrow) ∙ h)
     where
       go : (a b c d : Bool) → (a || (b || (c || false))) ≡ false → (a || (b || (c || d))) ≡ d
       go true b c d h = cc

@@ -3,4 +3,3 @@ pub mod Checks
 pub mod Codes
 pub mod Rooms
 pub mod Vacuums
-pub mod Products

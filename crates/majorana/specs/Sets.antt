@@ -5,7 +5,7 @@ use mathlib.Core.Bool.{Bool, _||_}
 use lib.Dec.{eqb, ltb}
 use lib.ListN.{length, getD, take}
 use Rattle.refusal.specs.Search.{someBelow}
-use Rattle.refusal.specs.Table.{Lent, _of_}
+use Rattle.refusal.specs.Table.{Lent, _of_, short}
 use Rattle.algebra.specs.Rows.{Row}
 use Rattle.algebra.specs.Modes.{Modes}
 use Rattle.dense_block.specs.Words.{value, wordsFor, termOf, strays}
@@ -50,6 +50,10 @@ badSize n q = eqb n 0 || (ltb 256 n || (eqb q 0 || ltb 256 q))
 abbrev pub setLent : ℕ → ℕ → ℕ → ℕ → ℕ → List Lent → List Lent
 setLent n w x z p more = (2 * n * w of x) ∷ (2 * n * w of z) ∷ (2 * n of p) ∷ more
 
+-- the same for the rows alone, at any sizes: more than 256 modes, or more than 4 words a row, are too much for slices of any length
+unfoldable pub manyOrShort : ℕ → ℕ → ℕ → ℕ → ℕ → Bool
+manyOrShort n w x z p = ltb 256 n || (ltb 4 w || short (setLent n w x z p []))
+
 -- 17: phase above 3, stray high bit
 unfoldable pub badRowAt : ℕ → ℕ → List ℕ → List ℕ → List ℕ → ℕ → Bool
 badRowAt q w xs zs ps k = ltb 3 (getD ps k 0) || (strays (termOf w xs k) q || strays (termOf w zs k) q)
@@ -59,6 +63,10 @@ badRows n q w xs zs ps = someBelow (2 * n) (badRowAt q w xs zs ps)
 
 abbrev pub badSet : Set → Bool
 badSet s = badRows (s .n) (s .q) (width s) (s .xs) (s .zs) (s .ps)
+
+-- the same at any sizes: more than 256 modes are refused too. What lies past the end of a slice counts as 0
+unfoldable pub manyOrBad : ℕ → ℕ → ℕ → List ℕ → List ℕ → List ℕ → Bool
+manyOrBad n q w xs zs ps = ltb 256 n || badRows n q w xs zs ps
 
 -- ---- what the private functions ask of rows that passed these
 

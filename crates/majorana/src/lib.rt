@@ -1,53 +1,36 @@
 // Row sets: n modes on q qubits, two rows a mode.
 //
 //   bad_size                     whether 1 refuses these sizes
+//   rows_short, bad_rows         the part of 2 and of 17 that is about the rows
 //   check_rows                   10, 11 or 13 unless rows anticommute, are independent, and the vacuum rule holds
 //   check_vacuum                 13 unless the vacuum rule holds at the given string
 //   determine_vacuum_state       the string that meets the vacuum rule, or 12
 //   new                          the vacuum of a row set that passes all checks: 12, 10, 11 or 13
 //   try_encode                   an occupation list to a string and its phase
 //   decode_zbasis_state          a string back to the list
-//   product, product_real        rows multiplied, with a complex or a real coefficient
 //
 // Lent to each call: X parts and Z parts of w = ceil(q/64) words a row, 2n·w words each, 2n phases, and strings of w words. Words past the lengths stated are not
 // looked at and stay. Each call tests its input itself, in the order 1, 2, 17 and then its task's own.
 
 mod check;
 mod coding;
-mod factors;
 mod mode;
 mod rows;
 mod vacuum;
 
-use factors::Made;
-use pauli::Coefficient;
-use pauli::Marked;
 use pauli::Phase;
 use refusal::Answer;
 use refusal::Refusal;
 ghost use mathlib.Core.Path.{_≡_};
 ghost use Rattle.refusal.specs.Numbers.{answered};
-ghost use Rattle.majorana.specs.Sets.{given, badSize};
+ghost use Rattle.majorana.specs.Sets.{given, badSize, manyOrShort, manyOrBad};
 ghost use Rattle.majorana.specs.Checks.{vacuumChecked, RowsChecked};
 ghost use Rattle.majorana.specs.Vacuums.{Solves, Makes};
 ghost use Rattle.majorana.specs.Codes.{Encodes, Decodes};
-ghost use Rattle.majorana.specs.Products.{Multiplies, RealMultiplies};
 
 // The phase of an encoded list, or why there is none.
 pub enum Encoded {
     Done(Phase),
-    Refused(Refusal),
-}
-
-// The phase of a product and its coefficient, or why there is none.
-pub enum Multiplied {
-    Done(Phase, Coefficient),
-    Refused(Refusal),
-}
-
-// The same, with a real coefficient, which comes back marked.
-pub enum RealMultiplied {
-    Done(Phase, Marked),
     Refused(Refusal),
 }
 
@@ -65,6 +48,44 @@ pub fn bad_size(modes: usize, qubits: usize) -> bool
         return true;
     }
     256 < qubits
+}
+
+// Whether slices of these lengths are too short for the rows; more than 256 modes, or more than 4 words a row, are too much for slices of any length.
+pub fn rows_short(modes: usize, w: usize, x: usize, z: usize, p: usize) -> bool
+    ensures { λ r. ⌜ r ≡ manyOrShort modes w x z p ⌝ }
+{
+    if 256 < modes {
+        return true;
+    }
+    if 4 < w {
+        return true;
+    }
+    let rows = 2 * modes;
+    let size = rows * w;
+    if x < size {
+        return true;
+    }
+    if z < size {
+        return true;
+    }
+    p < rows
+}
+
+// Whether one of the rows has a phase above 3 or a bit past the last column, or there are more than 256 modes. What lies past the end of a slice counts as 0.
+pub fn bad_rows(modes: usize, qubits: usize, w: usize, x: &[u64], z: &[u64], phases: &[u8]) -> bool
+    ensures { λ r. ⌜ r ≡ manyOrBad modes qubits w (now (x .entry)) (now (z .entry)) (now (phases .entry)) ⌝ }
+{
+    if 256 < modes {
+        return true;
+    }
+    let mut k = 2 * modes;
+    while 0 < k {
+        k -= 1;
+        if rows::bad_row_at(qubits, w, x, z, phases, k) {
+            return true;
+        }
+    }
+    false
 }
 
 // Whether the vacuum rule holds at `vacuum`.
@@ -290,56 +311,4 @@ pub fn decode_zbasis_state(
         return Answer::Done;
     }
     Answer::Refused(Refusal::Undecodable)
-}
-
-// The product of the rows of these numbers, at most 512, in the order in which they stand: on a state the last acts first, and no rows give the identity. Done: the
-// phase is in the answer with the coefficient times i to the letter power, and the X and Z parts are in the first w words of ox and oz. Refused: ox and oz are as they
-// were, and the coefficient is (0, 0).
-pub fn product(
-    modes: usize,
-    qubits: usize,
-    x: &[u64],
-    z: &[u64],
-    phases: &[u8],
-    numbers: &[usize],
-    c: Coefficient,
-    ox: &mut [u64],
-    oz: &mut [u64],
-) -> Multiplied
-    ensures { λ r. ⌜ Multiplies (given modes qubits (now (x .entry)) (now (z .entry)) (now (phases .entry))) (now (numbers .entry)) c (now (ox .entry)) (now (oz .entry)) r (now (ox .exit)) (now (oz .exit)) ⌝ }
-{
-    match factors::multiply(modes, qubits, x, z, phases, numbers, c.is_finite(), ox, oz) {
-        Made::Done(f, letters) => Multiplied::Done(f, c.turn(letters)),
-        Made::Refused(why) => Multiplied::Refused(why),
-    }
-}
-
-// The same with a real coefficient, which comes back marked real or imaginary; refused, it is real 0.
-pub fn product_real(
-    modes: usize,
-    qubits: usize,
-    x: &[u64],
-    z: &[u64],
-    phases: &[u8],
-    numbers: &[usize],
-    c: f64,
-    ox: &mut [u64],
-    oz: &mut [u64],
-) -> RealMultiplied
-    ensures { λ r. ⌜ RealMultiplies (given modes qubits (now (x .entry)) (now (z .entry)) (now (phases .entry))) (now (numbers .entry)) c (now (ox .entry)) (now (oz .entry)) r (now (ox .exit)) (now (oz .exit)) ⌝ }
-{
-    match factors::multiply(
-        modes,
-        qubits,
-        x,
-        z,
-        phases,
-        numbers,
-        pauli::finite(c),
-        ox,
-        oz,
-    ) {
-        Made::Done(f, letters) => RealMultiplied::Done(f, Marked::turn(c, letters)),
-        Made::Refused(why) => RealMultiplied::Refused(why),
-    }
 }

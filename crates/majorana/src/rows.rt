@@ -4,33 +4,17 @@ ghost use mathlib.Core.Path.{_≡_};
 ghost use mathlib.Core.List.{[], _∷_};
 ghost use mathlib.Core.Bool.{_||_};
 ghost use Prim.Native.Nat.{_+_, _*_, _≤_, _<_};
-ghost use lib.ListN.{length};
+ghost use lib.ListN.{length, getD};
 ghost use Rattle.refusal.specs.Table.{_of_, short};
 ghost use Rattle.dense_block.specs.Words.{termOf, strays};
 ghost use Rattle.majorana.specs.Sets.{setLent, badRowAt, badRows, Fits};
 
-// Whether slices of these lengths are too short for the rows.
-fn set_short(modes: usize, w: usize, x: usize, z: usize, p: usize) -> bool
-    requires { ⌜ (modes ≤ 256) × (w ≤ 4) ⌝ }
-    ensures { λ r. ⌜ r ≡ short (setLent modes w x z p []) ⌝ }
-{
-    let rows = 2 * modes;
-    let size = rows * w;
-    if x < size {
-        return true;
-    }
-    if z < size {
-        return true;
-    }
-    p < rows
-}
-
-// The same with one more slice, of length `h1`, of which `n1` are needed; and with two and three more.
+// Whether slices are too short for the rows and one thing more, of length `h1`, of which `n1` are needed; and for two and three more.
 pub fn short_one(modes: usize, w: usize, x: usize, z: usize, p: usize, n1: usize, h1: usize) -> bool
     requires { ⌜ (modes ≤ 256) × (w ≤ 4) ⌝ }
     ensures { λ r. ⌜ r ≡ short (setLent modes w x z p ((n1 of h1) ∷ [])) ⌝ }
 {
-    if set_short(modes, w, x, z, p) {
+    if crate::rows_short(modes, w, x, z, p) {
         return true;
     }
     h1 < n1
@@ -50,7 +34,7 @@ pub fn short_two(
     requires { ⌜ (modes ≤ 256) × (w ≤ 4) ⌝ }
     ensures { λ r. ⌜ r ≡ short (setLent modes w x z p ((n1 of h1) ∷ (n2 of h2) ∷ [])) ⌝ }
 {
-    if set_short(modes, w, x, z, p) {
+    if crate::rows_short(modes, w, x, z, p) {
         return true;
     }
     if h1 < n1 {
@@ -75,7 +59,7 @@ pub fn short_three(
     requires { ⌜ (modes ≤ 256) × (w ≤ 4) ⌝ }
     ensures { λ r. ⌜ r ≡ short (setLent modes w x z p ((n1 of h1) ∷ (n2 of h2) ∷ (n3 of h3) ∷ [])) ⌝ }
 {
-    if set_short(modes, w, x, z, p) {
+    if crate::rows_short(modes, w, x, z, p) {
         return true;
     }
     if h1 < n1 {
@@ -97,44 +81,27 @@ pub fn row(w: usize, k: usize, x: &[u64]) -> &[u64]
     &x[a..e]
 }
 
+// The phase of row k; 0 past the end.
+fn phase_at(phases: &[u8], k: usize) -> u8
+    ensures { λ r. ⌜ r ≡ getD (now (phases .entry)) k 0 ⌝ }
+{
+    if k < phases.len() { phases[k] } else { 0 }
+}
+
 // Whether row k has a phase above 3, or a bit past the last column.
-fn bad_row_at(
-    modes: usize,
-    qubits: usize,
-    w: usize,
-    x: &[u64],
-    z: &[u64],
-    phases: &[u8],
-    k: usize,
-) -> bool
-    requires { ⌜ Fits modes w (now x) (now z) (now phases) × (k < 2 * modes) ⌝ }
+pub fn bad_row_at(qubits: usize, w: usize, x: &[u64], z: &[u64], phases: &[u8], k: usize) -> bool
     ensures { λ r. ⌜ r ≡ badRowAt qubits w (now (x .entry)) (now (z .entry)) (now (phases .entry)) k ⌝ }
 {
-    if 3 < phases[k] {
+    if 3 < phase_at(phases, k) {
         return true;
     }
-    if dense_block::stray(row(w, k, x), qubits) {
+    if dense_block::stray(dense_block::get_term(x, w, k), qubits) {
         return true;
     }
-    dense_block::stray(row(w, k, z), qubits)
+    dense_block::stray(dense_block::get_term(z, w, k), qubits)
 }
 
-// Whether one of the rows has.
-pub fn bad_rows(modes: usize, qubits: usize, w: usize, x: &[u64], z: &[u64], phases: &[u8]) -> bool
-    requires { ⌜ Fits modes w (now x) (now z) (now phases) ⌝ }
-    ensures { λ r. ⌜ r ≡ badRows modes qubits w (now (x .entry)) (now (z .entry)) (now (phases .entry)) ⌝ }
-{
-    let mut k = 2 * modes;
-    while 0 < k {
-        k -= 1;
-        if bad_row_at(modes, qubits, w, x, z, phases, k) {
-            return true;
-        }
-    }
-    false
-}
-
-// Whether one of the rows has, or a string has a bit at or above its column q1; and with two strings.
+// Whether one of the rows is bad, or a string has a bit at or above its column q1; and with two strings.
 pub fn bad_one(
     modes: usize,
     qubits: usize,
@@ -148,7 +115,7 @@ pub fn bad_one(
     requires { ⌜ Fits modes w (now x) (now z) (now phases) ⌝ }
     ensures { λ r. ⌜ r ≡ (badRows modes qubits w (now (x .entry)) (now (z .entry)) (now (phases .entry)) || strays (now (s .entry)) q1) ⌝ }
 {
-    if bad_rows(modes, qubits, w, x, z, phases) {
+    if crate::bad_rows(modes, qubits, w, x, z, phases) {
         return true;
     }
     dense_block::stray(s, q1)
@@ -169,7 +136,7 @@ pub fn bad_two(
     requires { ⌜ Fits modes w (now x) (now z) (now phases) ⌝ }
     ensures { λ r. ⌜ r ≡ (badRows modes qubits w (now (x .entry)) (now (z .entry)) (now (phases .entry)) || (strays (now (s .entry)) q1 || strays (now (t .entry)) q2)) ⌝ }
 {
-    if bad_rows(modes, qubits, w, x, z, phases) {
+    if crate::bad_rows(modes, qubits, w, x, z, phases) {
         return true;
     }
     if dense_block::stray(s, q1) {

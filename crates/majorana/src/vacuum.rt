@@ -2,7 +2,6 @@
 
 use crate::check;
 use crate::mode;
-use crate::rows;
 use crate::rows::row;
 use refusal::Answer;
 use refusal::Refusal;
@@ -121,7 +120,7 @@ pub fn solve_lent(
     requires { ⌜ Fits modes w (now x) (now z) (now phases) × (qubits ≤ 64 * w) × (w ≤ length (now v)) × (modes * (w + 1) ≤ length (now room)) ⌝ }
     ensures { λ r. ⌜ SolvedLent (badRows modes qubits w (now (x .entry)) (now (z .entry)) (now (phases .entry))) (modesAt modes w (now (x .entry)) (now (z .entry)) (now (phases .entry))) qubits w (now (v .entry)) (now (room .entry)) r (now (v .exit)) (now (room .exit)) ⌝ }
 {
-    if rows::bad_rows(modes, qubits, w, x, z, phases) {
+    if crate::bad_rows(modes, qubits, w, x, z, phases) {
         return Answer::Refused(Refusal::Value);
     }
     if solve_held(modes, qubits, w, x, z, phases, v, room) {
@@ -168,7 +167,7 @@ fn new_in(
     requires { ⌜ Fits modes w (now x) (now z) (now phases) × (qubits ≤ 64 * w) × (length (now v) ≡ w) × (w ≤ length (now out)) × (modes * (w + 1) ≤ 2 * modes * (w + w)) × (2 * modes * (w + w) ≤ length (now room)) ⌝ }
     ensures { λ r. ⌜ NewLent (badRows modes qubits w (now (x .entry)) (now (z .entry)) (now (phases .entry))) (modesAt modes w (now (x .entry)) (now (z .entry)) (now (phases .entry))) qubits w (now (out .entry)) (now (room .entry)) r (now (out .exit)) (now (room .exit)) ⌝ }
 {
-    if rows::bad_rows(modes, qubits, w, x, z, phases) {
+    if crate::bad_rows(modes, qubits, w, x, z, phases) {
         return Answer::Refused(Refusal::Value);
     }
     if !solve_held(modes, qubits, w, x, z, phases, v, room) {

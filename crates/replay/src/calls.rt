@@ -3,8 +3,8 @@
 
 use crate::text;
 use majorana::Encoded;
-use majorana::RealMultiplied;
 use pauli::Marked;
+use products::RealMultiplied;
 use refusal::Answer;
 use refusal::Refusal;
 use ternarytree::Named;
@@ -183,7 +183,7 @@ fn multiply(n: usize, q: usize, x: &[u64], z: &[u64], p: &[u8], numbers: &[usize
     let mut oz = [7u64; 2];
     let w = words_for(q);
     let m = text::least(k, numbers.len());
-    match majorana::product_real(n, q, x, z, p, &numbers[..m], 1.0, &mut ox, &mut oz) {
+    match products::product_real(n, q, x, z, p, &numbers[..m], 1.0, &mut ox, &mut oz) {
         RealMultiplied::Done(_, c) => {
             text::number_out(0);
             text::bytes_out(&[power(c)], 1);

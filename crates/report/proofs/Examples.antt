@@ -85,3 +85,17 @@ empty-line = refl
 three-fields : parse (first-line ++ (49 ∷ 9 ∷ 52 ∷ 9 ∷ 53 ∷ 10 ∷ 43 ∷ [])) ≡ malformed 2
 unfolding parse cut isDigit fieldOf linesOf
 three-fields = refl
+
+five-fields : parse (second-ends (9 ∷ 45 ∷ 10 ∷ [])) ≡ malformed 2
+unfolding parse cut isDigit fieldOf linesOf
+five-fields = refl
+
+-- the first line is empty, and a good one follows
+blank-first : parse (10 ∷ first-line) ≡ malformed 1
+unfolding parse cut isDigit fieldOf linesOf
+blank-first = refl
+
+-- a blank before a number
+blank-at-start : parse (32 ∷ first-line) ≡ malformed 1
+unfolding parse cut isDigit fieldOf linesOf
+blank-at-start = refl

@@ -1,3 +1,4 @@
+pub mod Theorems
 pub mod Cuts
 pub mod Numbers
 pub mod Moves
@@ -9,3 +10,9 @@ pub mod LineLaws
 pub mod Wholes
 pub mod Examples
 pub mod Written
+pub mod Placing
+pub mod Sentences
+pub mod Replies
+pub mod Packs
+pub mod Outputs
+pub mod OutputExamples

@@ -13,7 +13,7 @@ use Rattle.report.specs.declared.read.State.{State}
 use Rattle.report.specs.declared.read.Text.{Text}
 use Rattle.report.specs.declared.read.Text.the-variants.{Entries, Malformed}
 use Rattle.report.specs.Text.{Cut, cut, lines, fields, fieldOf, Entry, Line, entry, noEntry, lineOf, Lines, withLine, linesOf, judged, parse}
-use Rattle.report.specs.Machine.{most, Told, textPaper, told, slotNumber, numbersOf, kept, stopped, lineAfter, after, more, next, tabbed, lineEnded, keptAt, lineKept, step, stepKept, fed, fedKept, finished}
+use Rattle.report.specs.Machine.{most, Told, textPaper, told, slotNumber, numbersOf, kept, stopped, lineAfter, after, more, next, tabbed, lineEnded, keptAt, lineKept, step, stepKept, fed, fedKept, finished, Feeds, Finishes}
 use lib.Seq.{drop-cons, sets, length-sets}
 use Rattle.report.proofs.Tables.{copied-nil, table-more}
 use Rattle.report.proofs.Cuts.{closed, longer, cut-closed, cut-longer}
@@ -227,8 +227,8 @@ unfolding kept cut linesOf
 start-kept d = copied-nil d
 
 -- what an answer to a state says of a text that leads to it
-pub answers : (s : State) (a : Told) → a ≡ finished s → (a ≡ finished s) × ((t : List ℕ) → s ≡ after t → a ≡ told (parse t))
-answers s a h = (h, λ t e. h ∙ ap finished e ∙ finished-after t)
+pub answers : (s : State) (a : Text) → textPaper a ≡ finished s → Finishes s a
+answers s a h = record { answer = h; text-answer = λ t e. h ∙ ap finished e ∙ finished-after t }
 
 -- the loop over a chunk: what is left of it leads to what the whole leads to
 pub fed-next : (s : State) {r : State} (u : List ℕ) (i : ℕ) → i < length u → r ≡ step s (getD u i 0) → fed r (drop (i + 1) u) ≡ fed s (drop i u)
@@ -261,18 +261,14 @@ length-step s b d = go (eqb b 10)
     go false = refl
 
 -- what feeding leaves, and what that says of a text that leads to the state before it
-pub feeds : (s : State) (u d : List ℕ) (r : State) (e : List ℕ) → r ≡ fed s u → e ≡ fedKept s u d
-    → (r ≡ fed s u) × ((e ≡ fedKept s u d) × (((t : List ℕ) → s ≡ after t → r ≡ after (t ++ u)) × ((t o : List ℕ) → s ≡ after t → d ≡ kept t o → e ≡ kept (t ++ u) o)))
-feeds s u d r e p q = (
-  p,
-  (
-    q,
-    (
-      λ t h. p ∙ ap (λ (s : State). fed s u) h ∙ fed-after t u,
-      λ t o h k. q ∙ ap (λ (s : State). fedKept s u d) h ∙ ap (fedKept (after t) u) k ∙ kept-fed t u o,
-    ),
-  ),
-)
+pub feeds : (s : State) (u d : List ℕ) (r : State) (e : List ℕ) → r ≡ fed s u → e ≡ fedKept s u d → Feeds s u d r e
+feeds s u d r e p q =
+    record {
+      state = p;
+      entries = q;
+      text-state = λ t h. p ∙ ap (λ (s : State). fed s u) h ∙ fed-after t u;
+      text-entries = λ t o h k. q ∙ ap (λ (s : State). fedKept s u d) h ∙ ap (fedKept (after t) u) k ∙ kept-fed t u o;
+    }
 
 -- ---- one outcome
 

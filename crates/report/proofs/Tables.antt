@@ -28,7 +28,7 @@ copied-more d s (v ∷ vs) =
     ap (copied d) (sym (append-assoc s (v ∷ []) vs)) ∙ copied-more d (s ++ (v ∷ [])) vs
     ∙ rw (copied-one d s v, length-append s (v ∷ []), add-one (length s))
 
-length-numbers : (es : List Entry) → length (numbersOf es) ≡ 4 * length es
+pub length-numbers : (es : List Entry) → length (numbersOf es) ≡ 4 * length es
 length-numbers [] = refl
 length-numbers (e ∷ es) = let h = length-numbers es in omega arith
 

@@ -1,6 +1,7 @@
 -- What a reader holds after a text, by the definition of well-formed text; and its moves, byte by byte, from any state.
 use Prim.Native.Nat.{ℕ, zero, suc, _+_, _-_, _*_, min}
-use mathlib.Core.List.{List, [], _∷_}
+use mathlib.Core.Path.{_≡_}
+use mathlib.Core.List.{List, [], _∷_, _++_}
 use mathlib.Core.Bool.{cond, _&&_}
 use lib.Dec.{eqb, ltb, leb}
 use lib.ListN.{length, take}
@@ -11,7 +12,7 @@ use Rattle.report.specs.declared.read.Field.the-variants.{Nothing, Dash,
 use Rattle.report.specs.declared.read.State.{State}
 use Rattle.report.specs.declared.read.Text.{Text}
 use Rattle.report.specs.declared.read.Text.the-variants.{Entries, Malformed}
-use Rattle.report.specs.Text.{lines, fields, isDigit, fieldOf, Slot, empty, numbered, asQubit, asSlot, Entry, linesOf, Parsed, wellFormed, malformed}
+use Rattle.report.specs.Text.{lines, fields, isDigit, fieldOf, Slot, empty, numbered, asQubit, asSlot, Entry, linesOf, Parsed, wellFormed, malformed, parse}
 
 -- ---- what is handed back
 
@@ -152,3 +153,23 @@ endedAt (suc k) f n = record { number = 16; entries = 0; line = more n }
 
 unfoldable pub finished : State → Told
 finished s = endedAt (s .fields) (s .field) (s .entries)
+
+-- ---- what the calls promise
+
+-- feed: from the state s and the table d, the chunk u leads to the state r and the table e. If s and d are what the text t leads to, then r and e are what t with u
+-- added leads to
+pub record Feeds (s : State) (u d : List ℕ) (r : State) (e : List ℕ) : Type 0 where
+  pub state : r ≡ fed s u
+  pub entries : e ≡ fedKept s u d
+  pub text-state : (t : List ℕ) → s ≡ after t → r ≡ after (t ++ u)
+  pub text-entries : (t o : List ℕ) → s ≡ after t → d ≡ kept t o → e ≡ kept (t ++ u) o
+
+-- finish: the answer a from the state s. If s is what the text t leads to, then a is what the definition says of t
+pub record Finishes (s : State) (a : Text) : Type 0 where
+  pub answer : textPaper a ≡ finished s
+  pub text-answer : (t : List ℕ) → s ≡ after t → textPaper a ≡ told (parse t)
+
+-- read: the answer a to the text t, and the table e where d was lent
+pub record Reads (t d : List ℕ) (a : Text) (e : List ℕ) : Type 0 where
+  pub answer : textPaper a ≡ told (parse t)
+  pub entries : e ≡ kept t d

@@ -3,12 +3,11 @@
 //   start, feed, finish    the state before the first byte, after a chunk more, and what the whole text is
 //   read                   the three at once, over a text that is lent whole
 
+use crate::puts::put;
 ghost use mathlib.Core.Path.{_≡_};
-ghost use mathlib.Core.List.{List, [], _++_};
-ghost use Prim.Native.Nat.{ℕ};
-ghost use lib.ListN.{set};
-ghost use Rattle.report.specs.Text.{isDigit, asQubit, asSlot, parse};
-ghost use Rattle.report.specs.Machine.{textPaper, told, slotNumber, kept, stopped, onLine, after, more, next, tabbed, lineEnded, keptAt, lineKept, step, stepKept, fed, fedKept, finished};
+ghost use mathlib.Core.List.{[]};
+ghost use Rattle.report.specs.Text.{isDigit, asQubit, asSlot};
+ghost use Rattle.report.specs.Machine.{slotNumber, stopped, onLine, after, more, next, tabbed, lineEnded, keptAt, lineKept, step, stepKept, Feeds, Finishes, Reads};
 
 // What is read of a field.
 pub enum Field {
@@ -200,15 +199,6 @@ fn tab(s: State) -> State
     stop(n)
 }
 
-// One number of the table; past the end nothing changes.
-fn put(table: &mut [usize], i: usize, v: usize)
-    ensures { λ _. ⌜ now (table .exit) ≡ set (now (table .entry)) i v ⌝ }
-{
-    if i < table.len() {
-        table[i] = v;
-    }
-}
-
 // Entry n of the table, if it is one of the first 256.
 fn keep(table: &mut [usize], n: usize, q: usize, x: usize, y: usize, z: usize)
     ensures { λ _. ⌜ now (table .exit) ≡ keptAt n q x y z (now (table .entry)) ⌝ }
@@ -272,10 +262,7 @@ pub fn start() -> State
 // The state after a chunk more. The table gets the first 256 entries as their lines end, four numbers an entry: the qubit, and for X, Y and Z the slot's number
 // plus 1, or 0 if it is empty. After a text t, a chunk leads to what the definition says of the text with the chunk added.
 pub fn feed(s: State, chunk: &[u8], table: &mut [usize]) -> State
-    ensures state { λ r. ⌜ r ≡ fed s (now (chunk .entry)) ⌝ }
-    ensures entries { λ _. ⌜ now (table .exit) ≡ fedKept s (now (chunk .entry)) (now (table .entry)) ⌝ }
-    ensures text_state { λ r. ⌜ ((t : List ℕ) → s ≡ after t → r ≡ after (t ++ now (chunk .entry))) ⌝ }
-    ensures text_entries { λ _. ⌜ ((t d : List ℕ) → s ≡ after t → now (table .entry) ≡ kept t d → now (table .exit) ≡ kept (t ++ now (chunk .entry)) d) ⌝ }
+    ensures { λ r. ⌜ Feeds s (now (chunk .entry)) (now (table .entry)) r (now (table .exit)) ⌝ }
 {
     let mut at = s;
     let mut i = 0;
@@ -289,8 +276,7 @@ pub fn feed(s: State, chunk: &[u8], table: &mut [usize]) -> State
 
 // What the whole text is, from the state after it.
 pub fn finish(s: State) -> Text
-    ensures answer { λ r. ⌜ textPaper r ≡ finished s ⌝ }
-    ensures text_answer { λ r. ⌜ ((t : List ℕ) → s ≡ after t → textPaper r ≡ told (parse t)) ⌝ }
+    ensures { λ r. ⌜ Finishes s r ⌝ }
 {
     let n = s.entries;
     let k = s.fields;
@@ -308,8 +294,7 @@ pub fn finish(s: State) -> Text
 
 // What a text is that is lent whole, with its first 256 entries in the table.
 pub fn read(text: &[u8], table: &mut [usize]) -> Text
-    ensures answer { λ r. ⌜ textPaper r ≡ told (parse (now (text .entry))) ⌝ }
-    ensures entries { λ _. ⌜ now (table .exit) ≡ kept (now (text .entry)) (now (table .entry)) ⌝ }
+    ensures { λ r. ⌜ Reads (now (text .entry)) (now (table .entry)) r (now (table .exit)) ⌝ }
 {
     finish(feed(start(), text, table))
 }

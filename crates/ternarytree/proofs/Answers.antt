@@ -1,16 +1,15 @@
 -- The answers of building: which of 1, 2 and 3 refuses, what is left then, and that past 1 and 2 the room is cleared whatever the answer.
-use Prim.Native.Nat.{ℕ, _+_, _*_, _/_, _<_, _≤_}
+use Prim.Native.Nat.{ℕ, _*_, _/_, _<_, _≤_}
 use native.Mathlib.Omega.{arith}
-use mathlib.Core.Path.{_≡_, refl, sym, ap, subst, _∙_}
-use mathlib.Core.Bool.{Bool, true, false, cond, _&&_, _||_}
+use mathlib.Core.Path.{_≡_, refl, sym, _∙_}
+use mathlib.Core.Bool.{Bool, true, false, _||_}
 use mathlib.Core.List.{List, [], _∷_}
 use borrow.Author.Tests.{ltb-true, ltb-false, leb-false, eqb-false, ne-eqb}
 use lib.Dec.{eqb, leb, ltb}
 use Rattle.refusal.specs.declared.Answer.{Answer}
 use Rattle.refusal.specs.declared.Answer.the-variants.{Refused}
 use Rattle.refusal.specs.declared.Refusal.the-variants.{Size, Short, Qubits}
-use Rattle.refusal.specs.Numbers.{Paper}
-use Rattle.refusal.specs.Search.{Pair, pair, noPair}
+use Rattle.refusal.specs.Search.{pair, noPair}
 use Rattle.refusal.specs.Table.{Rule, _gives_, _names_, firstOf, short, pastTwo}
 use Rattle.refusal.proofs.Bools.{or-left, or-right}
 use Rattle.refusal.proofs.Searches.{none-at}

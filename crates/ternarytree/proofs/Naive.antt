@@ -121,6 +121,11 @@ module _ (t : Tree) (ok : Sound t) (closed : Closed t) where
       let same = unique (slot-row t ok (chainEnd t s) (chain-low h c) .2) b refl .1 in
       (rw same x, rw same p)
 
+  -- the slot of a leaf is one of the tree's
+  pub naive-low : (m : ℕ) → m < 2 * t .n → slotOf false t m < 3 * t .n
+  unfolding slotOf
+  naive-low m h = let l : 3 * (m / 2) + m % 2 < 3 * t .n = omega arith in chain-low l (chain-all t (3 * (m / 2) + m % 2))
+
   pub naive-anticommute : Majorana (rows false t)
   unfolding Majorana slotOf
   naive-anticommute j k hj hk ne =

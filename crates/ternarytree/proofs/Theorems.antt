@@ -2,7 +2,8 @@
 -- the answer r and the slices as they are left.
 --
 -- In plain words: no input leaves two outcomes. A tree is never refused by 10 or 11, since its rows anticommute in pairs and so are independent; a naive tree is
--- never refused by 13 either; and a named tree of 1 to 256 nodes, asked for with at least as many qubits, is done.
+-- never refused by 13 either; and a named tree of 1 to 256 nodes, asked for with at least as many qubits, is done. Where the answer is done, row k of the words and
+-- phases that are written is row k of the tree.
 --
 -- The theorems that these rest on, over trees of any size:
 --   OneRoot     what refusal 8 means: `scattered` is false exactly if there is a root from which all nodes hang
@@ -11,29 +12,36 @@
 --   Naive       naive-anticommute, naive-vacuum: the rows of a naive tree do so too, and meet the vacuum rule at zero
 --   NamedTrees  named-passes: the four named trees pass the tests, for every n
 --   Fit         naive-faithful, named-faithful: on naive and named trees every occupation list encodes and decodes
-use Prim.Native.Nat.{ℕ, _+_, _*_, _<_, _≤_}
+use Prim.Native.Nat.{ℕ, _*_, _<_, _≤_}
 use native.Mathlib.Omega.{arith}
 use native.Mathlib.Decide.{ℕ-discrete}
 use mathlib.Core.Path.{_≡_, refl, sym, ap, _∙_}
 use mathlib.Core.Logic.{_≢_}
-use mathlib.Core.Bool.{Bool, true, false, cond, not, _||_}
+use mathlib.Core.Bool.{Bool, true, false, not}
 use mathlib.Core.List.{List, [], _∷_}
-use borrow.Author.Tests.{ne-eqb, le-ltb}
-use lib.Dec.{eqb, ltb}
+use borrow.Author.Tests.{ne-eqb, le-ltb, leb-false}
+use lib.Dec.{leb, ltb}
+use lib.ListN.{getD, drop}
 use Rattle.refusal.specs.declared.Answer.{Answer}
 use Rattle.refusal.specs.declared.Answer.the-variants.{Done}
 use Rattle.refusal.specs.Numbers.{Paper, bare, answered}
 use Rattle.refusal.specs.Table.{_gives_, firstOf, short}
+use Rattle.refusal.proofs.Bools.{or-right}
+use Rattle.refusal.proofs.Searches.{none-at}
 use Rattle.refusal.proofs.Outcome.{one-outcome, answered-injective}
 use Rattle.algebra.specs.Modes.{Modes, vacuumRule}
-use Rattle.dense_block.specs.Words.{wordsFor, zeroed}
+use Rattle.dense_block.specs.Words.{value, wordsFor, zeroed, termOf}
 use Rattle.dense_block.specs.Blocks.{laid, listed}
+use Rattle.dense_block.proofs.Blocks.{row-laid, number-listed}
 use Rattle.ternarytree.specs.Trees.{Tree}
-use Rattle.ternarytree.specs.Leaves.{rows}
+use Rattle.ternarytree.specs.Leaves.{slotOf, rows}
 use Rattle.ternarytree.specs.Named.{Named, namedTree}
-use Rattle.ternarytree.specs.Building.{Outputs, needed, Built, treeChecks, outside, Input, packOf, treeOf, badSize, tooShort, badQubits, answer, FlatBuilt, NamedInput, namedAnswer, NamedBuilt}
-use Rattle.ternarytree.specs.Tables.{verdict, rowsAnswer}
-use Rattle.ternarytree.proofs.Naive.{Closed}
+use Rattle.ternarytree.specs.Building.{Outputs, needed, Built, treeChecks, outside, Input, qubitAt, reaches, packOf, treeOf, badSize, tooShort, badQubits, answer, FlatBuilt, NamedInput, namedAnswer, NamedBuilt}
+use Rattle.ternarytree.specs.Tables.{verdict}
+use Rattle.ternarytree.proofs.Sound.{sound}
+use Rattle.ternarytree.proofs.Naive.{Closed, naive-low}
+use Rattle.ternarytree.proofs.WithLeaves.{leaf-slot}
+use Rattle.ternarytree.proofs.Bounds.{Within, low-row}
 use Rattle.ternarytree.proofs.Flats.{flatpack-closed}
 use Rattle.ternarytree.proofs.NamedTrees.{named-passes}
 use Rattle.ternarytree.proofs.Fit.{naive-meets, named-closed, named-checked, named-meets}
@@ -157,3 +165,55 @@ named-done i r xs zs ps vs room h l g k b =
       vacuum = d .vacuum;
       work = d .work;
     }
+
+-- ---- done: row k of what is written is row k of the tree
+
+pub record Stores (w : ℕ) (m : Modes) (xs zs ps : List ℕ) : Type 0 where
+  pub x-part : (k : ℕ) → k < 2 * m .n → value (termOf w xs k) ≡ m .row k .x
+  pub z-part : (k : ℕ) → k < 2 * m .n → value (termOf w zs k) ≡ m .row k .z
+  pub phase : (k : ℕ) → k < 2 * m .n → getD ps k 0 ≡ m .row k .p
+
+slot-low : (leaves : Bool) (t : Tree) → Closed t → Passed leaves t → (m : ℕ) → m < 2 * t .n → slotOf leaves t m < 3 * t .n
+unfolding slotOf
+slot-low true t shut p m h = leaf-slot t (p .whole) m h .1
+slot-low false t shut p m h = naive-low t (sound t (p .passes)) shut m h
+
+written : (leaves : Bool) (t : Tree) (w : ℕ) (o : Outputs) (r : Answer) (xs zs ps vs room : List ℕ) → Closed t → Passed leaves t → ((i : ℕ) → i < t .n → t .qubit i < 64 * w)
+    → Built (bare 0) w (rows leaves t) o r xs zs ps vs room → Stores w (rows leaves t) xs zs ps
+written leaves t w o r xs zs ps vs room shut p low b = record {
+  x-part = λ k h. rw (b .x-parts) (row-laid w (λ k. rows leaves t .row k .x) (2 * t .n) k (o .xs) h (within k h .x-low));
+  z-part = λ k h. rw (b .z-parts) (row-laid w (λ k. rows leaves t .row k .z) (2 * t .n) k (o .zs) h (within k h .z-low));
+  phase = λ k h. rw (b .phases) (number-listed (λ k. rows leaves t .row k .p) (2 * t .n) k (drop (2 * t .n) (o .ps)) h);
+}
+  where
+    within : (k : ℕ) → k < 2 * t .n → Within (64 * w) (rows leaves t .row k)
+    within k h = low-row t (64 * w) low (slotOf leaves t k) (slot-low leaves t shut p k h)
+
+-- an answer that is done has passed 3 and the tests of a tree
+flat-passed : (i : Input) → answer i ≡ bare 0 → (badQubits i ≡ false) × (verdict (i .leaves) (treeOf i) ≡ 0)
+unfolding answer
+flat-passed i e = go (badSize i) (tooShort i) (badQubits i) (ℕ-discrete (verdict (i .leaves) (treeOf i)) 0) (ap (λ (p : Paper). p .number) e)
+  where
+    go : (a b c : Bool) → Dec (verdict (i .leaves) (treeOf i) ≡ 0) → firstOf ((a gives 1) ∷ (b gives 2) ∷ (c gives 3) ∷ treeChecks (i .leaves) (treeOf i)) .number ≡ 0
+        → (c ≡ false) × (verdict (i .leaves) (treeOf i) ≡ 0)
+    go true b c d h = absurd (omega arith)
+    go false true c d h = absurd (omega arith)
+    go false false true d h = absurd (omega arith)
+    go false false false (yes z) h = (refl, z)
+    go false false false (no ne) h = absurd (ne (sym (ap (λ (p : Paper). p .number) (verdict-refuses (i .leaves) (treeOf i) ne)) ∙ h))
+
+pub flatpack-stored : (i : Input) (r : Answer) (xs zs ps vs room : List ℕ) → FlatBuilt i r xs zs ps vs room → r ≡ Done → Stores (wordsFor (i .q)) (rows (i .leaves) (treeOf i)) xs zs ps
+unfolding badQubits reaches
+flatpack-stored i r xs zs ps vs room b done =
+    let e : answer i ≡ bare 0 = sym (b .told) ∙ ap answered done in
+    let (below, passed) = flat-passed i e in
+    written (i .leaves) (treeOf i) (wordsFor (i .q)) (i .out) r xs zs ps vs room (flatpack-closed (i .leaves) (packOf i)) (verdict-passes (i .leaves) (treeOf i) passed)
+    (λ j h. let low = leb-false (i .q) (qubitAt (i .es) j) (none-at (i .n) (λ k. leb (i .q) (qubitAt (i .es) k)) (or-right (ltb (i .q) (i .n)) _ below) j h) in omega arith)
+    (rw e at b)
+
+pub named-stored : (i : NamedInput) (r : Answer) (xs zs ps vs room : List ℕ) → NamedBuilt i r xs zs ps vs room → r ≡ Done
+    → Stores (wordsFor (i .n)) (rows false (namedTree (i .tree) (i .n))) xs zs ps
+named-stored i r xs zs ps vs room b done =
+    let e : namedAnswer i ≡ bare 0 = sym (b .told) ∙ ap answered done in
+    written false (namedTree (i .tree) (i .n)) (wordsFor (i .n)) (i .out) r xs zs ps vs room (named-closed (i .tree) (i .n)) (record { passes = named-passes (i .tree) (i .n); whole = refl })
+    (λ j h. omega arith) (rw e at b)

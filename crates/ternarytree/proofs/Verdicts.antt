@@ -1,16 +1,16 @@
 -- The number of the first test that a tree fails, in the table of the refusals: it stands there before the row check; and where no test fails only 13 can be answered.
-use Prim.Native.Nat.{ℕ, zero, suc, _+_, _*_, _/_, _<_, _≤_}
+use Prim.Native.Nat.{ℕ, zero, suc, _+_, _*_, _/_, _<_}
 use native.Mathlib.Omega.{arith}
 use mathlib.Core.Path.{_≡_, refl, sym, ap, subst, _∙_}
 use mathlib.Core.Logic.{_≢_}
 use mathlib.Core.Bool.{Bool, true, false, cond, not, _&&_}
-use mathlib.Core.List.{List, [], _∷_}
+use mathlib.Core.List.{List, _∷_}
 use borrow.Author.Tests.{lt-ltb, ne-eqb}
 use lib.Dec.{eqb, leb, ltb}
 use Rattle.refusal.specs.declared.Answer.{Answer}
 use Rattle.refusal.specs.Numbers.{Paper, bare, answered}
 use Rattle.refusal.specs.Search.{Least, found, none, leastBelow}
-use Rattle.refusal.specs.Table.{Rule, _gives_, firstOf, ifZero}
+use Rattle.refusal.specs.Table.{Rule, _gives_, firstOf}
 use Rattle.refusal.proofs.Bools.{never}
 use Rattle.ternarytree.specs.Trees.{Child, empty, node, xLeaf, yLeaf, low, some, onward, Tree, parentIn, leafIn, twice, leafFault, faultOf, fault, firstFault, scattered, missing}
 use Rattle.ternarytree.specs.Leaves.{slotOf, rows}

@@ -1,15 +1,15 @@
 -- Steps of `wire`: the first fault decides, and the tables go on slot by slot.
-use Prim.Native.Nat.{ℕ, zero, suc, _+_, _*_, _<_, _≤_}
+use Prim.Native.Nat.{ℕ, _+_, _*_, _<_, _≤_}
 use native.Mathlib.Omega.{arith}
 use mathlib.Core.Path.{_≡_, refl, sym, ap, _∙_}
 use mathlib.Core.Logic.{_≢_}
-use mathlib.Core.Bool.{Bool, true, false, cond}
+use mathlib.Core.Bool.{Bool, false}
 use mathlib.Core.List.{List}
 use borrow.Author.Count.{below-more}
-use borrow.Author.Tests.{lt-ltb, le-ltb}
+use borrow.Author.Tests.{lt-ltb}
 use lib.Dec.{ltb}
 use lib.ListN.{length, set, length-set}
-use Rattle.refusal.specs.Search.{found, none, leastBelow}
+use Rattle.refusal.specs.Search.{leastBelow}
 use Rattle.refusal.proofs.Searches.{least-of, least-none}
 use Rattle.ternarytree.specs.Trees.{Child, nodeOf, Tree, parentIn, leafIn, twiceIn, faultOf, fault, firstFault}
 use Rattle.ternarytree.specs.Flatpacks.{Slot, entryIn, past}

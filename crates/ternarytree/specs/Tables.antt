@@ -16,7 +16,7 @@ use Rattle.dense_block.specs.Blocks.{laid, listed}
 use Rattle.ternarytree.specs.Trees.{Child, empty, Tree, nodeOf, up, parentIn, leafIn, twice, firstFault, scattered, missing}
 use Rattle.ternarytree.specs.Paths.{rowAt}
 use Rattle.ternarytree.specs.Leaves.{slotOf}
-use Rattle.ternarytree.specs.Flatpacks.{Slot, blank, number, Flatpack, unnamed, named, flatTree}
+use Rattle.ternarytree.specs.Flatpacks.{Slot, blank, number, unnamed, named, flatTree}
 use Rattle.ternarytree.specs.Building.{settled, treeChecks, qubitAt, slotAt, reaches}
 
 -- element k of a list, 0 past its end

@@ -17,16 +17,12 @@ ghost use mathlib.Core.Path.{_≡_};
 ghost use mathlib.Core.List.{[], _∷_};
 ghost use mathlib.Core.Bool.{true, false, _||_};
 ghost use lib.Dec.{ltb};
-ghost use Prim.Native.Nat.{ℕ, _*_, _<_, _≤_};
+ghost use Prim.Native.Nat.{_*_, _<_, _≤_};
 ghost use lib.ListN.{length};
 ghost use Rattle.refusal.specs.Numbers.{bare, answered};
-ghost use Rattle.refusal.specs.Table.{_of_, short, firstOf};
-ghost use Rattle.dense_block.specs.Words.{wordsFor, zeroed};
-ghost use Rattle.ternarytree.specs.Trees.{Tree};
-ghost use Rattle.ternarytree.specs.Leaves.{slotOf, rows};
-ghost use Rattle.ternarytree.specs.Named.{namedTree};
+ghost use Rattle.refusal.specs.Table.{_of_, short};
+ghost use Rattle.dense_block.specs.Words.{zeroed};
 ghost use Rattle.ternarytree.specs.Building.{given, qubitAt, outside, reaches, FlatBuilt, asked, NamedBuilt};
-ghost use Rattle.ternarytree.specs.Tables.{nth, AtMost, flat, Children, Wired, Slots, RowsWritten, TreeBuilt};
 
 // What a slot of a tree holds.
 pub enum Child {

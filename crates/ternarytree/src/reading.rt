@@ -145,7 +145,7 @@ pub fn place_leaf(m: usize, k: usize, n: usize, slots: &mut [usize; 512]) -> usi
     ensures { λ r. ⌜ (length (now (slots .exit)) ≡ 512) × ((t : Tree) → t .n ≡ n → rowOf (t .child k) ≡ found m → Holds (2 * n) (leafIn t k) (now (slots .entry)) → (r ≡ leafFault t k m) × (r ≡ 0 → Holds (2 * n) (leafIn t (k + 1)) (now (slots .exit)))) ⌝ }
 {
     if slots[m] != 0 {
-        return 9;
+        return 9; // used twice
     }
     slots[m] = k + 1;
     0

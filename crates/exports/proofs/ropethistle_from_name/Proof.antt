@@ -4,11 +4,6 @@ use Rattle.exports.proofs.Numbers.{number-refused, number-built}
 use borrow.Author.Needs.{needs}
 use Rattle.exports.proofs.ropethistle_from_name.Statement.{statement}
 use Rattle.exports.proofs.ropethistle_from_name.Tie as tie
-use Rattle.exports.proofs.ropethistle_from_name.Reads as reads
-use Rattle.exports.proofs.ropethistle_from_name.Lts as lts
-use Rattle.exports.proofs.told.answer.Reads as answer-reads
-use Rattle.exports.proofs.told.named.Reads as named-reads
-use Rattle.ternarytree.proofs.from_name.Reads as from-name-reads
 
 answer-requires : tie.Need-answer-requires
 answer-requires c κs = search needs

@@ -3,9 +3,6 @@ use borrow.Author.Tests.{lt-ltb, le-ltb}
 use borrow.Author.Needs.{needs}
 use Rattle.ternarytree.proofs.bad_qubits.Statement.{statement}
 use Rattle.ternarytree.proofs.bad_qubits.Tie as tie
-use Rattle.ternarytree.proofs.bad_qubits.Reads as reads
-use Rattle.ternarytree.proofs.bad_qubits.Lts as lts
-use Rattle.ternarytree.proofs.reaches.Reads as reaches-reads
 
 returns : tie.Need-returns
 returns c = rw (lt-ltb _ _ (c .if1 .taken))

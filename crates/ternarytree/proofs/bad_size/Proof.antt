@@ -4,10 +4,6 @@ use Rattle.ternarytree.proofs.Answers.{inside}
 use borrow.Author.Needs.{needs}
 use Rattle.ternarytree.proofs.bad_size.Statement.{statement}
 use Rattle.ternarytree.proofs.bad_size.Tie as tie
-use Rattle.ternarytree.proofs.bad_size.Reads as reads
-use Rattle.ternarytree.proofs.bad_size.Lts as lts
-use Rattle.ternarytree.proofs.outside.Reads as outside-reads
-use Rattle.ternarytree.proofs.reaches.Reads as reaches-reads
 
 outside-requires : tie.Need-outside-requires
 outside-requires c κs = search needs

@@ -3,9 +3,6 @@ use mathlib.Core.Path.{sym, _∙_}
 use borrow.Author.Needs.{needs}
 use Rattle.ternarytree.proofs.either_outside.Statement.{statement}
 use Rattle.ternarytree.proofs.either_outside.Tie as tie
-use Rattle.ternarytree.proofs.either_outside.Reads as reads
-use Rattle.ternarytree.proofs.either_outside.Lts as lts
-use Rattle.ternarytree.proofs.outside.Reads as outside-reads
 
 outside-requires : tie.Need-outside-requires
 outside-requires c κs = search needs

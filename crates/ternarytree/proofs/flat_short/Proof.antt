@@ -3,9 +3,6 @@ use borrow.Author.Tests.{lt-ltb, le-ltb}
 use borrow.Author.Needs.{needs}
 use Rattle.ternarytree.proofs.flat_short.Statement.{statement}
 use Rattle.ternarytree.proofs.flat_short.Tie as tie
-use Rattle.ternarytree.proofs.flat_short.Reads as reads
-use Rattle.ternarytree.proofs.flat_short.Lts as lts
-use Rattle.ternarytree.proofs.outputs_short.Reads as outputs-short-reads
 
 mul-if1 : tie.Need-mul-if1
 mul-if1 c = search needs

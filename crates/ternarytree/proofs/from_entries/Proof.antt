@@ -1,9 +1,9 @@
 -- `from_entries` meets its contract: 1, 2, then the room cleared and the flatpack built.
-use Prim.Native.Nat.{ℕ, _*_, _≤_, _<_}
+use Prim.Native.Nat.{_*_, _≤_, _<_}
 use native.Mathlib.Nat.{mul-le-mul}
 use native.Mathlib.Omega.{arith}
 use mathlib.Core.Path.{_≡_, sym, _∙_}
-use mathlib.Core.Bool.{true, false, _||_}
+use mathlib.Core.Bool.{true, false}
 use mathlib.Core.List.{List, [], _∷_}
 use lib.ListN.{length}
 use Rattle.refusal.specs.Table.{Lent, _of_}
@@ -14,13 +14,6 @@ use Rattle.ternarytree.proofs.Answers.{inside, flat-size, flat-lengths,
 use borrow.Author.Needs.{needs}
 use Rattle.ternarytree.proofs.from_entries.Statement.{statement}
 use Rattle.ternarytree.proofs.from_entries.Tie as tie
-use Rattle.ternarytree.proofs.from_entries.Reads as reads
-use Rattle.ternarytree.proofs.from_entries.Lts as lts
-use Rattle.dense_block.proofs.clear.Reads as clear-reads
-use Rattle.dense_block.proofs.words_for.Reads as words-for-reads
-use Rattle.ternarytree.proofs.bad_size.Reads as bad-size-reads
-use Rattle.ternarytree.proofs.building.build_within.Reads as build-within-reads
-use Rattle.ternarytree.proofs.flat_short.Reads as flat-short-reads
 
 abbrev input : tie.Start → Input
 input s = let a = s .args in given (a .leaves) (a .modes) (a .qubits) (a .entries .now) (a .filled .now) (a .x .now) (a .z .now) (a .phases .now) (a .vacuum .now) (a .room .now)

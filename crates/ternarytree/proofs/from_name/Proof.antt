@@ -1,14 +1,14 @@
 -- `from_name` meets its contract: 1, 2, then the room cleared, 3, and the tree built.
-use Prim.Native.Nat.{ℕ, _*_, _≤_, _<_}
+use Prim.Native.Nat.{_*_, _≤_, _<_}
 use native.Mathlib.Nat.{mul-le-mul}
 use native.Mathlib.Omega.{arith}
 use mathlib.Core.Path.{_≡_, sym, _∙_}
-use mathlib.Core.Bool.{true, false, _||_}
+use mathlib.Core.Bool.{false, _||_}
 use mathlib.Core.List.{List, [], _∷_}
 use lib.ListN.{length}
 use borrow.Author.Tests.{lt-ltb, le-ltb}
 use Rattle.refusal.specs.Table.{Lent, _of_, short}
-use Rattle.refusal.proofs.Bools.{or-left, or-right}
+use Rattle.refusal.proofs.Bools.{or-left}
 use Rattle.refusal.proofs.Rooms.{Hold, hold}
 use Rattle.dense_block.specs.Words.{wordsFor}
 use Rattle.ternarytree.specs.Building.{needed, outside, NamedInput, asked}
@@ -16,13 +16,6 @@ use Rattle.ternarytree.proofs.Answers.{inside, named-size, named-length
 use borrow.Author.Needs.{needs}
 use Rattle.ternarytree.proofs.from_name.Statement.{statement}
 use Rattle.ternarytree.proofs.from_name.Tie as tie
-use Rattle.ternarytree.proofs.from_name.Reads as reads
-use Rattle.ternarytree.proofs.from_name.Lts as lts
-use Rattle.dense_block.proofs.clear.Reads as clear-reads
-use Rattle.dense_block.proofs.words_for.Reads as words-for-reads
-use Rattle.ternarytree.proofs.building.build_named.Reads as build-named-reads
-use Rattle.ternarytree.proofs.either_outside.Reads as either-outside-reads
-use Rattle.ternarytree.proofs.outputs_short.Reads as outputs-short-reads
 
 abbrev input : tie.Start → NamedInput
 input s = let a = s .args in asked (a .tree) (a .modes) (a .qubits) (a .x .now) (a .z .now) (a .phases .now) (a .vacuum .now) (a .room .now)

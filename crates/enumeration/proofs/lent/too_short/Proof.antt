@@ -24,7 +24,7 @@ abbrev others : tie.Start → List Lent
 others c = let a = c .args in (a .w of a .v) ∷ (a .modes of a .m) ∷ setLent (a .modes) (a .w) (a .ox) (a .oz) (a .op) (behind c)
 
 read-long : (c : tie.Else1) → short (setLent (c .before .before .args .modes) (c .before .before .args .w) (c .before .before .args .x) (c .before .before .args .z) (c .before .before .args .p) (others (c .before .before))) ≡ short (others (c .before .before))
-read-long c = let a = c .before .before .args in set-long (a .modes) (a .w) (a .x) (a .z) (a .p) (others (c .before .before)) (sym (c .before .rows-short .ensures) ∙ c .if1 .left)
+read-long c = let a = c .before .before .args in set-long (a .modes) (a .w) (a .x) (a .z) (a .p) (c .before .before .pre .0) (c .before .before .pre .1) (others (c .before .before)) (sym (c .before .rows-short .ensures) ∙ c .if1 .left)
 
 -- the rows read, the vacuum and the map are long enough
 first-long : (c : tie.Else3) → short (setLent (c .before .before .before .before .args .modes) (c .before .before .before .before .args .w) (c .before .before .before .before .args .x) (c .before .before .before .before .args .z) (c .before .before .before .before .args .p) (others (c .before .before .before .before))) ≡ short (setLent (c .before .before .before .before .args .modes) (c .before .before .before .before .args .w) (c .before .before .before .before .args .ox) (c .before .before .before .before .args .oz) (c .before .before .before .before .args .op) (behind (c .before .before .before .before)))
@@ -32,13 +32,13 @@ first-long c = read-long (c .before .before) ∙ rw (le-ltb _ _ (c .before .if2 
 
 -- and the rows written
 second-long : (c : tie.Else4) → short (setLent (c .before .before .before .before .before .before .args .modes) (c .before .before .before .before .before .before .args .w) (c .before .before .before .before .before .before .args .x) (c .before .before .before .before .before .before .args .z) (c .before .before .before .before .before .before .args .p) (others (c .before .before .before .before .before .before))) ≡ short (behind (c .before .before .before .before .before .before))
-second-long c = let a = c .before .before .before .before .before .before .args in first-long (c .before .before) ∙ set-long (a .modes) (a .w) (a .ox) (a .oz) (a .op) (behind (c .before .before .before .before .before .before)) (sym (c .before .rows-short2 .ensures) ∙ c .if4 .left)
+second-long c = let a = c .before .before .before .before .before .before .args in first-long (c .before .before) ∙ set-long (a .modes) (a .w) (a .ox) (a .oz) (a .op) (c .before .before .before .before .before .before .pre .0) (c .before .before .before .before .before .before .pre .1) (behind (c .before .before .before .before .before .before)) (sym (c .before .rows-short2 .ensures) ∙ c .if4 .left)
 
 rows-short-requires : tie.Need-rows-short-requires
 rows-short-requires c κs = search needs
 
 returns : tie.Need-returns
-returns c = let a = c .before .before .args in sym (set-too-short (a .modes) (a .w) (a .x) (a .z) (a .p) (others (c .before .before)) (sym (c .before .rows-short .ensures) ∙ c .if1 .taken))
+returns c = let a = c .before .before .args in sym (set-too-short (a .modes) (a .w) (a .x) (a .z) (a .p) (c .before .before .pre .0) (c .before .before .pre .1) (others (c .before .before)) (sym (c .before .rows-short .ensures) ∙ c .if1 .taken))
 
 returns-2 : tie.Need-returns-2
 returns-2 c = rw (read-long (c .before), lt-ltb _ _ (c .if2 .taken))
@@ -50,7 +50,7 @@ rows-short-requires-2 : tie.Need-rows-short-requires-2
 rows-short-requires-2 c κs = search needs
 
 returns-4 : tie.Need-returns-4
-returns-4 c = let a = c .before .before .before .before .before .before .args in sym (first-long (c .before .before) ∙ set-too-short (a .modes) (a .w) (a .ox) (a .oz) (a .op) (behind (c .before .before .before .before .before .before)) (sym (c .before .rows-short2 .ensures) ∙ c .if4 .taken))
+returns-4 c = let a = c .before .before .before .before .before .before .args in sym (first-long (c .before .before) ∙ set-too-short (a .modes) (a .w) (a .ox) (a .oz) (a .op) (c .before .before .before .before .before .before .pre .0) (c .before .before .before .before .before .before .pre .1) (behind (c .before .before .before .before .before .before)) (sym (c .before .rows-short2 .ensures) ∙ c .if4 .taken))
 
 returns-5 : tie.Need-returns-5
 returns-5 c = rw (second-long (c .before), lt-ltb _ _ (c .if5 .taken))

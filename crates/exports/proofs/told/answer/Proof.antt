@@ -4,9 +4,6 @@ use Rattle.exports.specs.Behind.{answerTold}
 use borrow.Author.Needs.{needs}
 use Rattle.exports.proofs.told.answer.Statement.{statement}
 use Rattle.exports.proofs.told.answer.Tie as tie
-use Rattle.exports.proofs.told.answer.Reads as reads
-use Rattle.exports.proofs.told.answer.Lts as lts
-use Rattle.exports.proofs.told.refusal.Reads as refusal-reads
 
 enum-told : tie.Need-enum-told
 enum-told c = search needs

@@ -6,10 +6,6 @@ use Rattle.exports.specs.Behind.{encodedTold}
 use borrow.Author.Needs.{needs}
 use Rattle.exports.proofs.told.encoded.Statement.{statement}
 use Rattle.exports.proofs.told.encoded.Tie as tie
-use Rattle.exports.proofs.told.encoded.Reads as reads
-use Rattle.exports.proofs.told.encoded.Lts as lts
-use Rattle.exports.proofs.told.wide.Reads as wide-reads
-use Rattle.refusal.proofs.Refusal.number.Reads as number-reads
 
 enum-known-e : tie.Need-enum-known-e
 enum-known-e c = search needs

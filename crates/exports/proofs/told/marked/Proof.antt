@@ -6,8 +6,6 @@ use Rattle.exports.specs.Behind.{mark, value}
 use borrow.Author.Needs.{needs}
 use Rattle.exports.proofs.told.marked.Statement.{statement}
 use Rattle.exports.proofs.told.marked.Tie as tie
-use Rattle.exports.proofs.told.marked.Reads as reads
-use Rattle.exports.proofs.told.marked.Lts as lts
 
 enum-known-c : tie.Need-enum-known-c
 enum-known-c c = search needs

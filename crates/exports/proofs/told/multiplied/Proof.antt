@@ -9,10 +9,6 @@ use Rattle.exports.specs.Behind.{multipliedTold}
 use borrow.Author.Needs.{needs}
 use Rattle.exports.proofs.told.multiplied.Statement.{statement}
 use Rattle.exports.proofs.told.multiplied.Tie as tie
-use Rattle.exports.proofs.told.multiplied.Reads as reads
-use Rattle.exports.proofs.told.multiplied.Lts as lts
-use Rattle.exports.proofs.told.wide.Reads as wide-reads
-use Rattle.refusal.proofs.Refusal.number.Reads as number-reads
 
 enum-known-m : tie.Need-enum-known-m
 enum-known-m c = search needs

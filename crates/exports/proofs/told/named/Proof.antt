@@ -4,8 +4,6 @@ use Rattle.exports.proofs.Numbers.{jkmn-past}
 use borrow.Author.Needs.{needs}
 use Rattle.exports.proofs.told.named.Statement.{statement}
 use Rattle.exports.proofs.told.named.Tie as tie
-use Rattle.exports.proofs.told.named.Reads as reads
-use Rattle.exports.proofs.told.named.Lts as lts
 
 returns : tie.Need-returns
 returns c = search needs

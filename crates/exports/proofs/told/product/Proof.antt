@@ -6,10 +6,6 @@ use Rattle.exports.specs.Behind.{productTold}
 use borrow.Author.Needs.{needs}
 use Rattle.exports.proofs.told.product.Statement.{statement}
 use Rattle.exports.proofs.told.product.Tie as tie
-use Rattle.exports.proofs.told.product.Reads as reads
-use Rattle.exports.proofs.told.product.Lts as lts
-use Rattle.exports.proofs.told.wide.Reads as wide-reads
-use Rattle.refusal.proofs.Refusal.number.Reads as number-reads
 
 enum-known-p : tie.Need-enum-known-p
 enum-known-p c = search needs

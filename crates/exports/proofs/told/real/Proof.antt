@@ -9,11 +9,6 @@ use Rattle.exports.specs.Behind.{realTold, mark, value}
 use borrow.Author.Needs.{needs}
 use Rattle.exports.proofs.told.real.Statement.{statement}
 use Rattle.exports.proofs.told.real.Tie as tie
-use Rattle.exports.proofs.told.real.Reads as reads
-use Rattle.exports.proofs.told.real.Lts as lts
-use Rattle.exports.proofs.told.marked.Reads as marked-reads
-use Rattle.exports.proofs.told.wide.Reads as wide-reads
-use Rattle.refusal.proofs.Refusal.number.Reads as number-reads
 
 enum-known-m : tie.Need-enum-known-m
 enum-known-m c = search needs

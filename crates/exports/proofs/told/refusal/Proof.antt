@@ -4,10 +4,6 @@ use Rattle.exports.proofs.Numbers.{told-other, told-pair}
 use borrow.Author.Needs.{needs}
 use Rattle.exports.proofs.told.refusal.Statement.{statement}
 use Rattle.exports.proofs.told.refusal.Tie as tie
-use Rattle.exports.proofs.told.refusal.Reads as reads
-use Rattle.exports.proofs.told.refusal.Lts as lts
-use Rattle.exports.proofs.told.wide.Reads as wide-reads
-use Rattle.refusal.proofs.Refusal.number.Reads as number-reads
 
 number-requires : tie.Need-number-requires
 number-requires c κs = search needs

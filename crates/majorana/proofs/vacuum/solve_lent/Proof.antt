@@ -2,7 +2,7 @@
 use mathlib.Core.Path.{sym, _∙_}
 use Rattle.algebra.specs.Modes.{Modes}
 use Rattle.majorana.specs.Sets.{modesAt}
-use Rattle.majorana.proofs.SetLaws.{phase-small}
+use Rattle.majorana.proofs.SetLaws.{few-bad, phase-small}
 use Rattle.majorana.proofs.VacuumLaws.{solved-bad, solved-done, solved-none}
 use borrow.Author.Needs.{needs}
 use Rattle.majorana.proofs.vacuum.solve_lent.Statement.{statement}
@@ -18,13 +18,13 @@ returns : tie.Need-returns
 returns c =
     let s = c .before .before .before .before .before .before .before in
     let a = s .args in
-    solved-bad (rows s) (a .qubits) (a .w) (a .v .now) (a .room .now) (sym (c .before .bad-rows .ensures) ∙ c .if1 .taken)
+    solved-bad (rows s) (a .qubits) (a .w) (a .v .now) (a .room .now) (sym (c .before .bad-rows .ensures ∙ few-bad _ _ _ _ _ _ (c .before .before .before .before .before .before .before .pre .0 .modes)) ∙ c .if1 .taken)
 
 solve-held-requires : tie.Need-solve-held-requires
 solve-held-requires c κs =
     let s = c .before .before .before .before .before .before .before .before .before in
     let a = s .args in
-    let good = sym (c .before .before .before .bad-rows .ensures) ∙ c .before .before .if1 .left in
+    let good = sym (c .before .before .before .bad-rows .ensures ∙ few-bad _ _ _ _ _ _ (c .before .before .before .before .before .before .before .before .before .pre .0 .modes)) ∙ c .before .before .if1 .left in
     (record { fits = s .pre .0; small = phase-small (a .modes) (a .qubits) (a .w) (a .x .now) (a .z .now) (a .phases .now) good }, good, s .pre .1, s .pre .2, s .pre .3)
 
 same-length : tie.Need-same-length
@@ -37,7 +37,7 @@ returns-2 : tie.Need-returns-2
 returns-2 c =
     let s = c .before .before .before .before .before .before .before .before .before .before .before .before .before .before .before in
     let a = s .args in
-    let good = sym (c .before .before .before .before .before .before .before .before .before .bad-rows .ensures) ∙ c .before .before .before .before .before .before .before .before .if1 .left in
+    let good = sym (c .before .before .before .before .before .before .before .before .before .bad-rows .ensures ∙ few-bad _ _ _ _ _ _ (c .before .before .before .before .before .before .before .before .before .before .before .before .before .before .before .pre .0 .modes)) ∙ c .before .before .before .before .before .before .before .before .if1 .left in
     let e = c .before .before .before .before .before .solve-held .ensures in
     solved-done (rows s) (a .qubits) (a .w) (a .v .now) (a .room .now) good (sym (e .0) ∙ c .if2 .taken) (e .1) (e .2)
 
@@ -51,7 +51,7 @@ returns-3 : tie.Need-returns-3
 returns-3 c =
     let s = c .before .before .before .before .before .before .before .before .before .before .before .before .before .before .before in
     let a = s .args in
-    let good = sym (c .before .before .before .before .before .before .before .before .before .bad-rows .ensures) ∙ c .before .before .before .before .before .before .before .before .if1 .left in
+    let good = sym (c .before .before .before .before .before .before .before .before .before .bad-rows .ensures ∙ few-bad _ _ _ _ _ _ (c .before .before .before .before .before .before .before .before .before .before .before .before .before .before .before .pre .0 .modes)) ∙ c .before .before .before .before .before .before .before .before .if1 .left in
     let e = c .before .before .before .before .before .solve-held .ensures in
     solved-none (rows s) (a .qubits) (a .w) (a .v .now) (a .room .now) good (sym (e .0) ∙ c .if2 .left) (e .1) (e .2)
 

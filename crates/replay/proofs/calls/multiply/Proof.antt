@@ -4,16 +4,6 @@ use lib.Seq.{length-take-le}
 use borrow.Author.Needs.{needs}
 use Rattle.replay.proofs.calls.multiply.Statement.{statement}
 use Rattle.replay.proofs.calls.multiply.Tie as tie
-use Rattle.replay.proofs.calls.multiply.Reads as reads
-use Rattle.replay.proofs.calls.multiply.Lts as lts
-use Rattle.majorana.proofs.product_real.Reads as product-real-reads
-use Rattle.replay.proofs.calls.power.Reads as power-reads
-use Rattle.replay.proofs.calls.refused.Reads as refused-reads
-use Rattle.replay.proofs.calls.words_for.Reads as words-for-reads
-use Rattle.replay.proofs.text.bytes_out.Reads as bytes-out-reads
-use Rattle.replay.proofs.text.least.Reads as least-reads
-use Rattle.replay.proofs.text.number_out.Reads as number-out-reads
-use Rattle.replay.proofs.text.words_out.Reads as words-out-reads
 
 words-for-requires : tie.Need-words-for-requires
 words-for-requires c κs = search needs

@@ -3,12 +3,6 @@ use Prim.Native.Nat.{_-_, _≤_}
 use borrow.Author.Needs.{needs}
 use Rattle.replay.proofs.text.bytes_out.Statement.{statement}
 use Rattle.replay.proofs.text.bytes_out.Tie as tie
-use Rattle.replay.proofs.text.bytes_out.Reads as reads
-use Rattle.replay.proofs.text.bytes_out.Lts as lts
-use Rattle.io.proofs.write_all.Reads as write-all-reads
-use Rattle.replay.proofs.text.least.Reads as least-reads
-use Rattle.replay.proofs.text.number_out.Reads as number-out-reads
-use Rattle.replay.proofs.text.wide.Reads as wide-reads
 
 abbrev Inv-loop : tie.InvT-loop
 Inv-loop s k n i₀ t5 i = 0 ≤ i

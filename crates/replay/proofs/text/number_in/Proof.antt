@@ -4,11 +4,6 @@ use lib.ListN.{length}
 use borrow.Author.Needs.{needs}
 use Rattle.replay.proofs.text.number_in.Statement.{statement}
 use Rattle.replay.proofs.text.number_in.Tie as tie
-use Rattle.replay.proofs.text.number_in.Reads as reads
-use Rattle.replay.proofs.text.number_in.Lts as lts
-use Rattle.replay.proofs.text.digit.Reads as digit-reads
-use Rattle.replay.proofs.text.skip.Reads as skip-reads
-use Rattle.replay.proofs.text.with_digit.Reads as with-digit-reads
 
 abbrev Inv-loop : tie.InvT-loop
 Inv-loop s from i₀ value₀ i value = 0 ≤ i

@@ -4,9 +4,6 @@ use lib.ListN.{length}
 use borrow.Author.Needs.{needs}
 use Rattle.replay.proofs.text.skip.Statement.{statement}
 use Rattle.replay.proofs.text.skip.Tie as tie
-use Rattle.replay.proofs.text.skip.Reads as reads
-use Rattle.replay.proofs.text.skip.Lts as lts
-use Rattle.replay.proofs.text.digit.Reads as digit-reads
 
 abbrev Inv-loop : tie.InvT-loop
 Inv-loop s from i₀ i = 0 ≤ i

@@ -22,10 +22,11 @@ returns : tie.Need-returns
 returns c =
     let f = c .before .before .before in
     let s = f .before .before in
-    let a = s .before .before .before .args in (
-      c .finish .ensures .1 (a .text .now) (f .feed .ensures .1 .1 .0 [] (s .start .ensures)),
-      f .feed .ensures .1 .1 .1 [] (a .table .now) (s .start .ensures) (sym (start-kept (a .table .now))),
-    )
+    let a = s .before .before .before .args in
+    record {
+      answer = c .finish .ensures .text-answer (a .text .now) (f .feed .ensures .text-state [] (s .start .ensures));
+      entries = f .feed .ensures .text-entries [] (a .table .now) (s .start .ensures) (sym (start-kept (a .table .now)));
+    }
 
 pub read-spec : {M : Type 1} → statement M
 read-spec = tie.close (tie.spec start-requires feed-requires finish-requires same-length returns)

@@ -14,13 +14,6 @@ use Rattle.ternarytree.proofs.Verdicts.{verdict-number, verdict-passes,
 use borrow.Author.Needs.{needs}
 use Rattle.ternarytree.proofs.building.build_flat.Statement.{statement}
 use Rattle.ternarytree.proofs.building.build_flat.Tie as tie
-use Rattle.ternarytree.proofs.building.build_flat.Reads as reads
-use Rattle.ternarytree.proofs.building.build_flat.Lts as lts
-use Rattle.ternarytree.proofs.building.build_rows.Reads as build-rows-reads
-use Rattle.ternarytree.proofs.building.leaf_slots.Reads as leaf-slots-reads
-use Rattle.ternarytree.proofs.climbing.check_tree.Reads as check-tree-reads
-use Rattle.ternarytree.proofs.reading.copy_qubits.Reads as copy-qubits-reads
-use Rattle.ternarytree.proofs.refused.Reads as refused-reads
 
 abbrev tree : tie.Start → Tree
 tree s = flat (s .args .leaves) (s .args .n) (s .args .entries .now) (s .args .filled .now)

@@ -1,7 +1,7 @@
 -- `build_named` meets its contract: the tables of a named tree, which passes its tests, and the rows.
 use native.Mathlib.Omega.{arith}
 use lib.ListN.{getD-replicate}
-use mathlib.Core.Path.{_≡_, refl}
+use mathlib.Core.Path.{refl}
 use mathlib.Core.Bool.{false}
 use Rattle.ternarytree.specs.Named.{namedTree}
 use Rattle.ternarytree.specs.Tables.{Ready}
@@ -13,11 +13,6 @@ use Rattle.ternarytree.proofs.Verdicts.{tree-passed}
 use borrow.Author.Needs.{needs}
 use Rattle.ternarytree.proofs.building.build_named.Statement.{statement}
 use Rattle.ternarytree.proofs.building.build_named.Tie as tie
-use Rattle.ternarytree.proofs.building.build_named.Reads as reads
-use Rattle.ternarytree.proofs.building.build_named.Lts as lts
-use Rattle.ternarytree.proofs.building.build_rows.Reads as build-rows-reads
-use Rattle.ternarytree.proofs.chains.naive_slots.Reads as naive-slots-reads
-use Rattle.ternarytree.proofs.planting.plant.Reads as plant-reads
 
 abbrev start : tie.After-plant → tie.Start
 start c = c .before .before .before .before .before .before .before .before

@@ -1,6 +1,6 @@
 -- `build_rows` meets its contract: the rows are written and the vacuum cleared, and if the vacuum rule fails all is cleared.
 use native.Mathlib.Omega.{arith}
-use mathlib.Core.Path.{_≡_, sym, _∙_}
+use mathlib.Core.Path.{sym, _∙_}
 use Rattle.ternarytree.specs.Trees.{Tree}
 use Rattle.ternarytree.specs.Leaves.{slotOf}
 use Rattle.ternarytree.specs.Tables.{Ready, RowsWritten}
@@ -11,12 +11,6 @@ use Prim.Native.Nat.{_*_}
 use borrow.Author.Needs.{needs}
 use Rattle.ternarytree.proofs.building.build_rows.Statement.{statement}
 use Rattle.ternarytree.proofs.building.build_rows.Tie as tie
-use Rattle.ternarytree.proofs.building.build_rows.Reads as reads
-use Rattle.ternarytree.proofs.building.build_rows.Lts as lts
-use Rattle.dense_block.proofs.clear.Reads as clear-reads
-use Rattle.ternarytree.proofs.clear_phases.Reads as clear-phases-reads
-use Rattle.ternarytree.proofs.writing.put_rows.Reads as put-rows-reads
-use Rattle.ternarytree.proofs.writing.vacuum_met.Reads as vacuum-met-reads
 
 abbrev start : tie.After-put-rows → tie.Start
 start c = c .before .before .before .before .before .before .before .before

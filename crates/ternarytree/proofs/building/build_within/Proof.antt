@@ -1,14 +1,10 @@
 -- `build_within` meets its contract: 3 first.
 use native.Mathlib.Omega.{arith}
-use mathlib.Core.Path.{_≡_, sym, _∙_}
+use mathlib.Core.Path.{sym, _∙_}
 use Rattle.ternarytree.proofs.Answers.{qubits-lie, qubits-refused, qubits-passed}
 use borrow.Author.Needs.{needs}
 use Rattle.ternarytree.proofs.building.build_within.Statement.{statement}
 use Rattle.ternarytree.proofs.building.build_within.Tie as tie
-use Rattle.ternarytree.proofs.building.build_within.Reads as reads
-use Rattle.ternarytree.proofs.building.build_within.Lts as lts
-use Rattle.ternarytree.proofs.bad_qubits.Reads as bad-qubits-reads
-use Rattle.ternarytree.proofs.building.build_flat.Reads as build-flat-reads
 
 bad-qubits-requires : tie.Need-bad-qubits-requires
 bad-qubits-requires c κs = search needs

@@ -4,9 +4,6 @@ use Rattle.ternarytree.proofs.Verdicts.{leaf-ends, naive-ends}
 use borrow.Author.Needs.{needs}
 use Rattle.ternarytree.proofs.building.leaf_slots.Statement.{statement}
 use Rattle.ternarytree.proofs.building.leaf_slots.Tie as tie
-use Rattle.ternarytree.proofs.building.leaf_slots.Reads as reads
-use Rattle.ternarytree.proofs.building.leaf_slots.Lts as lts
-use Rattle.ternarytree.proofs.chains.naive_slots.Reads as naive-slots-reads
 
 naive-slots-requires : tie.Need-naive-slots-requires
 naive-slots-requires c κs = search needs

@@ -1,0 +1,18 @@
+-- `rows::phase_at` meets its contract: what is past the end counts as 0.
+use mathlib.Core.Path.{sym}
+use lib.ListN.{List·getD-eq-default}
+use borrow.Author.Needs.{needs}
+use Rattle.majorana.proofs.rows.phase_at.Statement.{statement}
+use Rattle.majorana.proofs.rows.phase_at.Tie as tie
+
+shared-slice-read-result : tie.Need-shared-slice-read-result
+shared-slice-read-result c = search needs
+
+returns : tie.Need-returns
+returns c = search needs
+
+returns-2 : tie.Need-returns-2
+returns-2 c = sym (List·getD-eq-default (c .before .args .phases .now) 0 (c .if1 .left))
+
+pub phase-at-spec : {M : Type 1} → statement M
+phase-at-spec = tie.close (tie.spec shared-slice-read-result returns returns-2)

@@ -1,0 +1,3 @@
+pub mod ProductLaws
+pub mod ProductAnswers
+pub mod ProductExamples
