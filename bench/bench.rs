@@ -1,7 +1,7 @@
 //! Times the library and the Rust by one driver in one run. Arguments: the sizes (4 16 64 128 256 if none).
 //!
-//! A line has the call, the modes, nanoseconds a call for each side (the median of 15 samples, each of as many calls as take about 2 ms), and how many times as long
-//! the Rust takes. What a call consumes is made before the clock starts, and what it returns is dropped after it stops. The library's slices are as long as needed and
+//! A line has the call, the modes, nanoseconds a call for each side (the least of 15 samples, each of as many calls as take about 2 ms; 5 samples where one call
+//! takes above 50 ms), and how many times as long the Rust takes. What a call consumes is made before the clock starts, and what it returns is dropped after it stops. The library's slices are as long as needed and
 //! are not cleared between calls.
 use driver::*;
 use ferrmion_core::encode::majorana::{Encode, MajoranaEncoding, TryEncode};
@@ -26,10 +26,8 @@ fn timed<I, R>(mut prepare: impl FnMut() -> I, mut run: impl FnMut(I) -> R) -> f
     };
     let once = sample(1).min(sample(1));
     let calls = (2e6 / once).clamp(1.0, 20_000.0) as usize;
-    let samples = if once > 5e7 { 3 } else { 15 };
-    let mut v: Vec<f64> = (0..samples).map(|_| sample(calls)).collect();
-    v.sort_by(f64::total_cmp);
-    v[samples / 2]
+    let samples = if once > 5e7 { 5 } else { 15 };
+    (0..samples).map(|_| sample(calls)).fold(f64::INFINITY, f64::min)
 }
 
 fn line(call: &str, n: usize, ours: f64, rust: Option<f64>) {
