@@ -72,7 +72,9 @@ fn answer(s: State, table: &[usize]) {
         Answer::Done => {}
         Answer::Refused(why) => {
             let site = locate::locate(s, table);
-            let k = explain::explain(why, site.line, site.spot, &mut out);
+            let line = site.line;
+            let spot = site.spot;
+            let k = explain::explain(why, line, spot, &mut out);
             show(STDERR_FILENO, &out, k);
         }
     }
