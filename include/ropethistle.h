@@ -32,7 +32,7 @@
  *     18  MaxNTO: n odd
  * The first that holds is given, in the order 1, 2, 3, 17 and then that of the call (MaxNTO: 1, 18, 2). The other values of a refused answer are 0, but for 10's pair.
  *
- * A refused call changes no output. `room` is work room: 0 over its needed length after every call that got past 1 and 2, refused or not, and untouched otherwise.
+ * A refused call changes no output, but that a tree refused by 13 leaves 0 over its rows, phases and vacuum. `room` is work room: 0 over its needed length after every call that got past 1 and 2, refused or not, and untouched otherwise.
  */
 #ifndef ROPETHISTLE_H
 #define ROPETHISTLE_H
