@@ -12,8 +12,8 @@ use denote.Enum.Declared.{tagOf}
 use Rattle.exports.specs.declared.told.RopethistleAnswer.{RopethistleAnswer}
 use Rattle.refusal.specs.declared.Answer.{Answer}
 use Rattle.refusal.specs.declared.Answer.the-variants.{Refused}
-use Rattle.ternarytree.specs.declared.Named.{Named}
-use Rattle.ternarytree.specs.declared.Named.the-variants.{Jkmn}
+use Rattle.trees.specs.declared.Named.{Named}
+use Rattle.trees.specs.declared.Named.the-variants.{Jkmn}
 use Rattle.ternarytree.specs.Building.{asked, NamedBuilt}
 use Rattle.exports.specs.Behind.{refusalTold, answerTold, Tells, namedBy, Slices, NumberBuilt}
 use Rattle.refusal.specs.declared.Refusal.{Refusal}

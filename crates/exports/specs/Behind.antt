@@ -15,8 +15,8 @@ use Rattle.products.specs.declared.Multiplied.{Multiplied}
 use Rattle.products.specs.declared.RealMultiplied.{RealMultiplied}
 use Rattle.majorana.specs.Codes.{encodedPaper}
 use Rattle.products.specs.Products.{multipliedPaper, realPaper}
-use Rattle.ternarytree.specs.declared.Named.{Named}
-use Rattle.ternarytree.specs.declared.Named.the-variants.{JordanWigner, Parity, BravyiKitaev, Jkmn}
+use Rattle.trees.specs.declared.Named.{Named}
+use Rattle.trees.specs.declared.Named.the-variants.{JordanWigner, Parity, BravyiKitaev, Jkmn}
 use Rattle.ternarytree.specs.Building.{NamedInput, NamedBuilt, asked}
 use Rattle.exports.specs.declared.told.RopethistleAnswer.{RopethistleAnswer}
 use Rattle.exports.specs.declared.told.RopethistlePhase.{RopethistlePhase}

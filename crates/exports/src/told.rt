@@ -7,7 +7,7 @@ use products::Multiplied;
 use products::RealMultiplied;
 use refusal::Answer;
 use refusal::Refusal;
-use ternarytree::Named;
+use trees::Named;
 ghost use mathlib.Core.Path.{_≡_};
 ghost use Prim.Native.Nat.{_≤_};
 ghost use Rattle.exports.specs.Behind.{refusalTold, answerTold, encodedTold, productTold, multipliedTold, realTold, mark, value, namedBy};

@@ -7,7 +7,7 @@ use pauli::Marked;
 use products::RealMultiplied;
 use refusal::Answer;
 use refusal::Refusal;
-use ternarytree::Named;
+use trees::Named;
 ghost use Prim.Native.Nat.{_≤_};
 
 fn wide(k: u8) -> u64 {

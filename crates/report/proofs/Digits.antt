@@ -7,12 +7,12 @@ use mathlib.Core.Bool.{Bool, true, false}
 use lib.Dec.{ltb}
 use lib.ListN.{length, length-append}
 use borrow.Author.Tests.{ltb-true, ltb-false, lt-ltb, le-ltb, le-leb, ne-eqb}
-use Rattle.report.specs.declared.read.Field.{Field}
-use Rattle.report.specs.declared.read.Field.the-variants.{Number}
-use Rattle.report.specs.Text.{isDigit, fieldOf}
-use Rattle.report.specs.Machine.{next}
+use Rattle.flatpack_text.specs.declared.read.Field.{Field}
+use Rattle.flatpack_text.specs.declared.read.Field.the-variants.{Number}
+use Rattle.flatpack_text.specs.Text.{isDigit, fieldOf}
+use Rattle.flatpack_text.specs.Machine.{next}
 use Rattle.report.specs.Report.{digitsIn, digitsOf}
-use Rattle.report.proofs.Numbers.{field-more}
+use Rattle.flatpack_text.proofs.Numbers.{field-more}
 
 in-small : (k n : ℕ) → n < 10 → digitsIn (suc k) n ≡ (48 + n) ∷ []
 unfolding digitsIn

@@ -1,16 +1,9 @@
 pub mod Theorems
-pub mod Cuts
-pub mod Numbers
-pub mod Moves
-pub mod Tables
-pub mod Reading
 pub mod Digits
 pub mod Stores
 pub mod LineLaws
 pub mod Wholes
-pub mod Examples
 pub mod Written
-pub mod Placing
 pub mod Sentences
 pub mod Replies
 pub mod Packs

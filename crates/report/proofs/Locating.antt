@@ -9,13 +9,13 @@ use Rattle.ternarytree.specs.declared.Place.{Place}
 use Rattle.ternarytree.specs.declared.Place.the-variants.{Nowhere, Slot}
 use Rattle.ternarytree.specs.Building as tree
 use Rattle.ternarytree.specs.Building.{faultPlace}
-use Rattle.report.specs.declared.read.State.{State}
-use Rattle.report.specs.declared.read.Text.{Text}
-use Rattle.report.specs.declared.read.Text.the-variants.{Entries, Malformed}
+use Rattle.flatpack_text.specs.declared.read.State.{State}
+use Rattle.flatpack_text.specs.declared.read.Text.{Text}
+use Rattle.flatpack_text.specs.declared.read.Text.the-variants.{Entries, Malformed}
 use Rattle.report.specs.declared.explain.Spot.the-variants.{Line, Z}
 use Rattle.report.specs.declared.locate.Site.{Site}
-use Rattle.report.specs.Machine.{Told, textPaper, finished, Finishes}
-use Rattle.report.specs.Entries.{placed, plainAt, filledAt}
+use Rattle.flatpack_text.specs.Machine.{Told, textPaper, finished, Finishes}
+use Rattle.flatpack_text.specs.Entries.{placed, plainAt, filledAt}
 use Rattle.report.specs.Located.{spotOf, locatedAt, faultAt, locatedIn, located}
 
 -- neither the X nor the Y slot

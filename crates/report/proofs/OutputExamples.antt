@@ -7,12 +7,12 @@ use Rattle.refusal.specs.Search.{someBelow, allBelow, leastBelow, firstPair}
 use Rattle.algebra.specs.Rows.{bit, clash, dot, common}
 use Rattle.algebra.specs.Modes.{vacuumRule, empty, paired, d, e, commutingPair}
 use Rattle.algebra.specs.Choices.{combo, dependent}
-use Rattle.ternarytree.specs.Trees.{parentIn, leafIn, twiceIn, firstFault, faultOf, leafFault, scattered, climb, missing}
-use Rattle.ternarytree.specs.Flatpacks.{childOf, entryIn, past, leafNumbered}
+use Rattle.trees.specs.Trees.{parentIn, leafIn, twiceIn, firstFault, faultOf, leafFault, scattered, climb, missing}
+use Rattle.trees.specs.Flatpacks.{childOf, entryIn, past, leafNumbered}
 use Rattle.ternarytree.specs.Building.{outside}
-use Rattle.ternarytree.specs.Paths.{letter, above, rowAt}
-use Rattle.ternarytree.specs.Leaves.{namedSlot, slotOf}
-use Rattle.report.specs.Text.{parse, cut, isDigit, fieldOf, linesOf}
+use Rattle.trees.specs.Paths.{letter, above, rowAt}
+use Rattle.trees.specs.Leaves.{namedSlot, slotOf}
+use Rattle.flatpack_text.specs.Text.{parse, cut, isDigit, fieldOf, linesOf}
 use Rattle.report.specs.Report.{digitsIn, digitsOf, rowNumber, refusedLine, report}
 use Rattle.report.specs.Output.{verdict, answerText, output}
 

@@ -19,20 +19,20 @@ use Rattle.refusal.specs.Table.{Rule, _gives_, firstOf, _of_, ifZero}
 use Rattle.refusal.proofs.Bools.{or-left, or-right}
 use Rattle.algebra.specs.Rows.{Row}
 use Rattle.dense_block.specs.Words.{wordsFor, copied}
-use Rattle.ternarytree.specs.declared.Slot as flat
-use Rattle.ternarytree.specs.Trees.{Tree}
-use Rattle.ternarytree.specs.Flatpacks.{Flatpack, past, flatTree}
-use Rattle.ternarytree.specs.Leaves.{rows}
+use Rattle.trees.specs.declared.Slot as flat
+use Rattle.trees.specs.Trees.{Tree}
+use Rattle.trees.specs.Flatpacks.{Flatpack, past, flatTree}
+use Rattle.trees.specs.Leaves.{rows}
 use Rattle.ternarytree.specs.Building.{Input, given, packOf, treeOf, outside, reaches, qubitAt, slotAt, badSize, tooShort, badQubits, treeChecks, answer}
 use Rattle.report.specs.declared.reply.Reply.{Reply}
-use Rattle.report.specs.Text.{lines, Entry, linesOf, wellFormed, malformed, isEmpty, parse}
-use Rattle.report.specs.Machine.{most, told, numbersOf, kept}
+use Rattle.flatpack_text.specs.Text.{lines, Entry, linesOf, wellFormed, malformed, isEmpty, parse}
+use Rattle.flatpack_text.specs.Machine.{most, told, numbersOf, kept}
 use Rattle.report.specs.Report.{digitsOf, refused, report, refusedLine, wrote, written, roomy, reportLength, reported}
-use Rattle.report.specs.Entries.{plainAt, filledAt, used}
+use Rattle.flatpack_text.specs.Entries.{plainAt, filledAt, used}
 use Rattle.report.specs.Output.{pack, tree, qubits, reaching, verdict, answerText, outputOf, output, inputOf, saidLength, said, Replied}
 use Rattle.report.proofs.Digits.{digits-word}
 use Rattle.report.proofs.LineLaws.{length-two}
-use Rattle.report.proofs.Placing.{length-placed}
+use Rattle.flatpack_text.proofs.Placing.{length-placed}
 use Rattle.report.proofs.Packs.{plain, full, table-at, qubit-number, qubit-same, slot-same}
 
 outside-min : (p : ℕ) → outside (min p 257) ≡ outside p

@@ -9,14 +9,14 @@ use lib.ListN.{length, getD, set, replicate, length-replicate, List·getD-eq-def
 use lib.Seq.{getD-set-same, getD-set-other}
 use borrow.Author.Tests.{eqb-true, eqb-false, ltb-true, ltb-false, ne-eqb, eq-eqb}
 use Rattle.dense_block.specs.Words.{copied}
-use Rattle.ternarytree.specs.declared.Slot.the-variants.{Blank, Number}
+use Rattle.trees.specs.declared.Slot.the-variants.{Blank, Number}
 use Rattle.ternarytree.specs.Building.{qubitAt, slotAt}
-use Rattle.report.specs.Text.{Slot, empty, numbered, Entry}
-use Rattle.report.specs.Machine.{slotNumber, numbersOf}
-use Rattle.report.specs.Entries.{placed, plainAt, filledAt}
+use Rattle.flatpack_text.specs.Text.{Slot, empty, numbered, Entry}
+use Rattle.flatpack_text.specs.Machine.{slotNumber, numbersOf}
+use Rattle.flatpack_text.specs.Entries.{placed, plainAt, filledAt}
 use Rattle.report.specs.Output.{blankEntry, entryAt, slotIn, flatSlot, pack}
-use Rattle.report.proofs.Tables.{length-numbers}
-use Rattle.report.proofs.Placing.{length-placed}
+use Rattle.flatpack_text.proofs.Tables.{length-numbers}
+use Rattle.flatpack_text.proofs.Placing.{length-placed}
 
 -- ---- what was placed
 

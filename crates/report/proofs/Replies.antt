@@ -24,17 +24,17 @@ use Rattle.algebra.specs.Modes.{Modes}
 use Rattle.dense_block.specs.Words.{value, wordsFor, termOf, zeroed}
 use Rattle.dense_block.proofs.Values.{words-hold}
 use Rattle.dense_block.proofs.Blocks.{row-laid, number-listed}
-use Rattle.ternarytree.specs.Trees.{onward, Tree, leafIn, is, rowOf as leafRow}
-use Rattle.ternarytree.specs.Leaves.{namedSlot, slotOf, rows}
+use Rattle.trees.specs.Trees.{onward, Tree, leafIn, is, rowOf as leafRow}
+use Rattle.trees.specs.Leaves.{namedSlot, slotOf, rows}
 use Rattle.ternarytree.specs.Building.{Input, given, treeOf, outside, reaches, qubitAt, badSize, badQubits, tooShort, treeChecks, answer, settled, FlatBuilt}
-use Rattle.ternarytree.proofs.Bounds.{Within, low-row}
+use Rattle.trees.proofs.Bounds.{Within, low-row}
 use Rattle.report.specs.Report.{rowIn, rowLines, report, refusedLine, wrote, written, reportLength, reported}
-use Rattle.report.specs.Entries.{placed, plainAt, filledAt, used}
-use Rattle.report.specs.declared.read.State.{State}
-use Rattle.report.specs.declared.read.Text.{Text}
-use Rattle.report.specs.declared.read.Text.the-variants.{Entries, Malformed}
+use Rattle.flatpack_text.specs.Entries.{placed, plainAt, filledAt, used}
+use Rattle.flatpack_text.specs.declared.read.State.{State}
+use Rattle.flatpack_text.specs.declared.read.Text.{Text}
+use Rattle.flatpack_text.specs.declared.read.Text.the-variants.{Entries, Malformed}
 use Rattle.report.specs.declared.reply.Reply.{Reply}
-use Rattle.report.specs.Machine.{Told, textPaper, finished, Finishes}
+use Rattle.flatpack_text.specs.Machine.{Told, textPaper, finished, Finishes}
 use Rattle.report.specs.Output.{saidLength, said, inputOf, Builds, Replied}
 
 -- ---- done, or refused

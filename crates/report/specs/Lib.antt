@@ -1,7 +1,4 @@
-pub mod Text
-pub mod Machine
 pub mod Report
-pub mod Entries
 pub mod Explain
 pub mod Output
 pub mod Located

@@ -8,8 +8,8 @@ use Rattle.ternarytree.specs.Building.{faultPlace}
 use Rattle.report.specs.declared.explain.Spot.{Spot}
 use Rattle.report.specs.declared.explain.Spot.the-variants.{Line, X, Y, Z}
 use Rattle.report.specs.declared.locate.Site.{Site}
-use Rattle.report.specs.Machine.{Told}
-use Rattle.report.specs.Entries.{placed, plainAt, filledAt}
+use Rattle.flatpack_text.specs.Machine.{Told}
+use Rattle.flatpack_text.specs.Entries.{placed, plainAt, filledAt}
 
 -- the slot of a line: 0 is X, 1 is Y, 2 is Z
 abbrev pub spotOf : ℕ → Spot

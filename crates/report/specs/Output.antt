@@ -9,17 +9,17 @@ use Rattle.refusal.specs.Numbers.{Paper, bare, answered}
 use Rattle.refusal.specs.Search.{someBelow}
 use Rattle.refusal.specs.Table.{_gives_, firstOf, ifZero}
 use Rattle.algebra.specs.Rows.{Row}
-use Rattle.ternarytree.specs.Trees.{Tree}
-use Rattle.ternarytree.specs.declared.Slot as flat
-use Rattle.ternarytree.specs.declared.Slot.the-variants.{Blank, Number}
-use Rattle.ternarytree.specs.Flatpacks.{Flatpack, past, flatTree}
-use Rattle.ternarytree.specs.Leaves.{rows}
+use Rattle.trees.specs.Trees.{Tree}
+use Rattle.trees.specs.declared.Slot as flat
+use Rattle.trees.specs.declared.Slot.the-variants.{Blank, Number}
+use Rattle.trees.specs.Flatpacks.{Flatpack, past, flatTree}
+use Rattle.trees.specs.Leaves.{rows}
 use Rattle.ternarytree.specs.Building.{Input, given, outside, treeChecks, treeOf, answer}
-use Rattle.report.specs.Text.{Slot, empty, numbered, Entry, Parsed, wellFormed, malformed, parse}
+use Rattle.flatpack_text.specs.Text.{Slot, empty, numbered, Entry, Parsed, wellFormed, malformed, parse}
 use Rattle.report.specs.Report.{refusedLine, report, wrote, written, reportLength, reported}
 use Rattle.report.specs.declared.reply.Reply.{Reply}
-use Rattle.report.specs.Machine.{Told}
-use Rattle.report.specs.Entries.{placed, plainAt, filledAt, used}
+use Rattle.flatpack_text.specs.Machine.{Told}
+use Rattle.flatpack_text.specs.Entries.{placed, plainAt, filledAt, used}
 
 -- ---- the text's flatpack
 

@@ -1,15 +1,15 @@
 // Where in a text a refusal was found: the line that is no entry, or the line and slot of the first slot at fault.
 
 use crate::explain::Spot;
-use crate::flatpack;
-use crate::read;
-use crate::read::State;
-use crate::read::Text;
+use flatpack_text::flatpack;
+use flatpack_text::read;
+use flatpack_text::read::State;
+use flatpack_text::read::Text;
 use ternarytree::Place;
 ghost use mathlib.Core.Path.{_≡_};
 ghost use Rattle.refusal.specs.Search.{found};
 ghost use Rattle.ternarytree.specs.Building.{placed};
-ghost use Rattle.report.specs.Machine.{finished};
+ghost use Rattle.flatpack_text.specs.Machine.{finished};
 ghost use Rattle.report.specs.Located.{spotOf, faultAt, locatedAt, located};
 
 // A line, 0 if it is not known where, and what of it.

@@ -1,10 +1,10 @@
 // What `rowreport` answers to a text that was read: the bytes that it writes, and why and where it refuses.
 
-use crate::flatpack;
-use crate::read;
-use crate::read::State;
-use crate::read::Text;
 use crate::write;
+use flatpack_text::flatpack;
+use flatpack_text::read;
+use flatpack_text::read::State;
+use flatpack_text::read::Text;
 use refusal::Answer;
 use refusal::Refusal;
 ghost use mathlib.Core.Path.{_≡_};
@@ -12,7 +12,7 @@ ghost use Rattle.refusal.specs.Numbers.{answered};
 ghost use Rattle.dense_block.specs.Words.{value};
 ghost use Rattle.report.specs.Report.{rowIn};
 ghost use Rattle.report.specs.Output.{saidLength, said, Builds, Replied};
-ghost use Rattle.report.specs.Machine.{finished};
+ghost use Rattle.flatpack_text.specs.Machine.{finished};
 
 pub struct Reply {
     pub answer: Answer,

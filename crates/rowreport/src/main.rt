@@ -1,14 +1,14 @@
 // Reads flatpack text with leaves from standard input to its end and writes the report of its rows, or `refused`, a tab and the number of the refusal. What a refusal means,
 // and where it was found if that is known, goes to standard error. Nothing is written before the answer is known.
 
+use flatpack_text::read;
+use flatpack_text::read::State;
 use libc::STDERR_FILENO;
 use libc::STDIN_FILENO;
 use libc::STDOUT_FILENO;
 use refusal::Answer;
 use report::explain;
 use report::locate;
-use report::read;
-use report::read::State;
 use report::reply;
 
 // What a read of standard input comes to.

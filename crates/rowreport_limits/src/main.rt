@@ -1,9 +1,9 @@
 // Feeds texts to the reader as rowreport does, in chunks of a few bytes, and writes a line for each: what it is, the number of the answer, the line at fault and the bytes
 // that are written. Long texts, at the limits of what is taken, and a text for each way not to be well formed.
 
+use flatpack_text::read;
+use flatpack_text::read::State;
 use refusal::Answer;
-use report::read;
-use report::read::State;
 use report::reply;
 ghost use Prim.Native.Nat.{_≤_, _<_};
 

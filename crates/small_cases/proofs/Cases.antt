@@ -28,12 +28,12 @@ use Rattle.majorana.specs.declared.Encoded.the-variants.{Done as Made}
 use Rattle.refusal.specs.declared.Answer.the-variants.{Done as Fine, Refused}
 use Rattle.refusal.specs.declared.Refusal.the-variants.{NoVacuum, Undecodable}
 use Rattle.maxnto.specs.Formula.{columns, xPart, zPart, phaseOf, maxntoRow}
-use Rattle.ternarytree.specs.Trees.{parentIn}
-use Rattle.ternarytree.specs.Paths.{letter, above, rowAt}
-use Rattle.ternarytree.specs.Leaves.{zEnd, chainEnd, slotOf, rows}
-use Rattle.ternarytree.specs.declared.Named.{Named}
-use Rattle.ternarytree.specs.declared.Named.the-variants.{JordanWigner, Parity}
-use Rattle.ternarytree.specs.Named.{under, namedTree}
+use Rattle.trees.specs.Trees.{parentIn}
+use Rattle.trees.specs.Paths.{letter, above, rowAt}
+use Rattle.trees.specs.Leaves.{zEnd, chainEnd, slotOf, rows}
+use Rattle.trees.specs.declared.Named.{Named}
+use Rattle.trees.specs.declared.Named.the-variants.{JordanWigner, Parity}
+use Rattle.trees.specs.Named.{under, namedTree}
 
 -- ---- what a case says
 

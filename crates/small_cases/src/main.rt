@@ -6,7 +6,7 @@ use pauli::Marked;
 use products::RealMultiplied;
 use refusal::Answer;
 use refusal::Refusal;
-use ternarytree::Named;
+use trees::Named;
 
 fn wide(x: u8) -> u64 {
     x as u64

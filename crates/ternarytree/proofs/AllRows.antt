@@ -7,8 +7,8 @@ use mathlib.Core.List.{List, _++_}
 use lib.ListN.{length, take, drop, set, length-take, length-drop}
 use Rattle.dense_block.specs.Words.{wordsOf}
 use Rattle.dense_block.proofs.Blocks.{laid-none, laid-step, listed-step}
-use Rattle.ternarytree.specs.Trees.{Tree}
-use Rattle.ternarytree.specs.Paths.{rowAt}
+use Rattle.trees.specs.Trees.{Tree}
+use Rattle.trees.specs.Paths.{rowAt}
 use Rattle.ternarytree.specs.Tables.{RowWritten, RowsWritten}
 
 -- a row of w words that is lent

@@ -16,9 +16,9 @@ use Rattle.refusal.proofs.Bools.{or-left, or-right}
 use Rattle.refusal.proofs.Rooms.{hold}
 use Rattle.refusal.proofs.Searches.{none-at}
 use Rattle.dense_block.specs.Words.{wordsFor, zeroed}
-use Rattle.ternarytree.specs.Trees.{Tree, firstFault}
-use Rattle.ternarytree.specs.Leaves.{rows}
-use Rattle.ternarytree.specs.Named.{namedTree}
+use Rattle.trees.specs.Trees.{Tree, firstFault}
+use Rattle.trees.specs.Leaves.{rows}
+use Rattle.trees.specs.Named.{namedTree}
 use Rattle.ternarytree.specs.Building.{needed, treeChecks, outside, Input, qubitAt, treeOf, reaches, unreadable, badSize, tooShort, badQubits, answer, FlatBuilt, NamedInput, namedAnswer, NamedBuilt}
 use Rattle.ternarytree.specs.Tables.{AtMost, flat, flatTask, TreeBuilt}
 use Rattle.ternarytree.proofs.Verdicts.{fault-number}

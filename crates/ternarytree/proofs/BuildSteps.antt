@@ -13,14 +13,15 @@ use Rattle.dense_block.specs.Words.{wordsFor, zeroed}
 use Rattle.dense_block.specs.Blocks.{rowsOf, laid, numbersOf, listed}
 use Rattle.dense_block.proofs.Blocks.{row-laid, length-rows, length-laid, length-numbers, length-listed, number-listed}
 use Rattle.dense_block.proofs.Clears.{zeroed-same}
-use Rattle.ternarytree.specs.Trees.{Tree}
-use Rattle.ternarytree.specs.Paths.{rowAt}
-use Rattle.ternarytree.specs.Leaves.{slotOf, rows}
-use Rattle.ternarytree.specs.Named.{Named, namedTree}
+use Rattle.trees.specs.Trees.{Tree}
+use Rattle.trees.specs.Paths.{rowAt}
+use Rattle.trees.specs.Leaves.{slotOf, rows}
+use Rattle.trees.specs.declared.Named.{Named}
+use Rattle.trees.specs.Named.{namedTree}
 use Rattle.ternarytree.specs.Building.{qubitAt}
 use Rattle.ternarytree.specs.Tables.{nth, AtMost, flat, Wired, Slots, Planted, RowsWritten, StoredX, Ready, rowsAnswer, TreeBuilt}
 use Rattle.ternarytree.proofs.ClimbSteps.{wired-parents}
-use Rattle.ternarytree.proofs.Bounds.{Within, low-row}
+use Rattle.trees.proofs.Bounds.{Within, low-row}
 
 -- what was laid or listed and then cleared
 cleared-laid : (w : ℕ) (f : ℕ → ℕ) (m : ℕ) (xs xs′ : List ℕ) → m * w ≤ length xs → xs′ ≡ laid w f m xs → zeroed (m * w) xs′ ≡ zeroed (m * w) xs

@@ -6,12 +6,12 @@ use mathlib.Core.Logic.{_≢_}
 use mathlib.Core.Bool.{true, false}
 use mathlib.Core.List.{List}
 use Rattle.refusal.specs.Search.{Least, found, none}
-use Rattle.ternarytree.specs.Trees.{onward, nodeOf, Tree, leafIn, missing}
-use Rattle.ternarytree.specs.Leaves.{namedSlot, zEnd, chainEnd, slotOf}
+use Rattle.trees.specs.Trees.{onward, nodeOf, Tree, leafIn, missing}
+use Rattle.trees.specs.Leaves.{namedSlot, zEnd, chainEnd, slotOf}
 use Rattle.ternarytree.specs.Tables.{nth, code, AtMost, Children, Wired, Slots}
 use Rattle.ternarytree.proofs.Codes.{code-none}
-use Rattle.ternarytree.proofs.Naive.{Closed}
-use Rattle.ternarytree.proofs.WithLeaves.{leaf-slot}
+use Rattle.trees.proofs.Naive.{Closed}
+use Rattle.trees.proofs.WithLeaves.{leaf-slot}
 
 -- the end of the chain from slot s with l steps left
 abbrev pub endFrom : Tree → ℕ → ℕ → ℕ

@@ -10,10 +10,10 @@ use lib.Dec.{eqb, ltb}
 use lib.ListN.{getD}
 use Rattle.refusal.specs.Search.{Least, found, none, someBelow}
 use Rattle.refusal.proofs.Searches.{some-of, none-of}
-use Rattle.ternarytree.specs.Trees.{some, onward, Tree, up, climb, parentIn, leafIn, scattered, missing}
+use Rattle.trees.specs.Trees.{some, onward, Tree, up, climb, parentIn, leafIn, scattered, missing}
 use Rattle.ternarytree.specs.Tables.{nth, code, AtMost, Parents, Wired, slotVerdict, verdict}
 use Rattle.ternarytree.proofs.Codes.{code-some, code-none}
-use Rattle.ternarytree.proofs.Sound.{parent-names}
+use Rattle.trees.proofs.Sound.{parent-names}
 
 -- ---- climbs
 

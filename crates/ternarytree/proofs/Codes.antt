@@ -10,7 +10,7 @@ use mathlib.Core.List.{List}
 use lib.ListN.{getD, set, length}
 use lib.Seq.{getD-set-same, getD-set-other}
 use Rattle.refusal.specs.Search.{Least, found, none, orElse, leastBelow}
-use Rattle.ternarytree.specs.Trees.{some}
+use Rattle.trees.specs.Trees.{some}
 use Rattle.ternarytree.specs.Tables.{code, uncode, Holds}
 
 pub code-some : (o : Least) → code o ≢ 0 → some o ≡ true

@@ -12,8 +12,12 @@ use lib.ListN.{getD, set, length, List·getD-eq-default}
 use borrow.Author.Tests.{eq-eqb, ne-eqb, le-leb, lt-leb}
 use Rattle.refusal.specs.Search.{Least, found, none, someBelow, leastBelow}
 use Rattle.refusal.proofs.Searches.{some-of, none-of, least-found, least-none, least-missing}
-use Rattle.ternarytree.specs.Trees.{Child, empty, node, low, twiceIn}
-use Rattle.ternarytree.specs.Flatpacks.{Slot, blank, number, Flatpack, entryIn, past, leafNumbered, unnamed, named, childOf}
+use Rattle.trees.specs.declared.Child.{Child}
+use Rattle.trees.specs.declared.Child.the-variants.{Empty as empty, Node as node, Low as low}
+use Rattle.trees.specs.Trees.{twiceIn}
+use Rattle.trees.specs.declared.Slot.{Slot}
+use Rattle.trees.specs.declared.Slot.the-variants.{Blank as blank, Number as number}
+use Rattle.trees.specs.Flatpacks.{Flatpack, entryIn, past, leafNumbered, unnamed, named, childOf}
 use Rattle.ternarytree.specs.Building.{qubitAt, slotAt}
 use Rattle.ternarytree.specs.Tables.{code, uncode, Holds, AtMost, childIn, flat}
 use Rattle.ternarytree.proofs.Codes.{code-none, uncode-code, mark}

@@ -1,15 +1,4 @@
 pub mod Examples
-pub mod Findings
-pub mod Sound
-pub mod Letters
-pub mod Above
-pub mod WithLeaves
-pub mod Naive
-pub mod NamedTrees
-pub mod OneRoot
-pub mod Bounds
-pub mod Flats
-pub mod Fit
 pub mod Codes
 pub mod EntrySteps
 pub mod PlaceSteps

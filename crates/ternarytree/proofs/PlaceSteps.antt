@@ -8,7 +8,9 @@ use mathlib.Core.List.{List}
 use lib.ListN.{getD, set, length}
 use borrow.Author.Tests.{eq-eqb, ne-eqb, le-leb, lt-leb}
 use Rattle.refusal.specs.Search.{found, none}
-use Rattle.ternarytree.specs.Trees.{Child, empty, node, xLeaf, yLeaf, low, is, nodeOf, rowOf, Tree, parentIn, leafIn, leafFault, faultOf}
+use Rattle.trees.specs.declared.Child.{Child}
+use Rattle.trees.specs.declared.Child.the-variants.{Empty as empty, Node as node, XLeaf as xLeaf, YLeaf as yLeaf, Low as low}
+use Rattle.trees.specs.Trees.{is, nodeOf, rowOf, Tree, parentIn, leafIn, leafFault, faultOf}
 use Rattle.ternarytree.specs.Tables.{code, Holds, Wired}
 use Rattle.ternarytree.proofs.Codes.{code-some, code-none, skip, mark}
 

@@ -12,12 +12,13 @@ use lib.ListN.{length, set, length-set}
 use Rattle.refusal.specs.Search.{Least, found, none, leastBelow}
 use Rattle.refusal.proofs.Bools.{and-left, and-right, is-false}
 use Rattle.refusal.proofs.Searches.{least-none}
-use Rattle.ternarytree.specs.Trees.{empty, nodeOf, Tree, up}
-use Rattle.ternarytree.specs.Flatpacks.{named}
-use Rattle.ternarytree.specs.Named.{grown}
+use Rattle.trees.specs.declared.Child.the-variants.{Empty as empty}
+use Rattle.trees.specs.Trees.{nodeOf, Tree, up}
+use Rattle.trees.specs.Flatpacks.{named}
+use Rattle.trees.specs.Named.{grown}
 use Rattle.ternarytree.specs.Tables.{nth, code, Holds, Blank, Planted}
 use Rattle.ternarytree.proofs.Codes.{mark, in-order}
-use Rattle.ternarytree.proofs.NamedTrees.{Growing, node-of-named, stands-low, root-up, grown-up}
+use Rattle.trees.proofs.NamedTrees.{Growing, node-of-named, stands-low, root-up, grown-up}
 
 module _ (stands : ℕ → ℕ) (g : Growing stands) (n : ℕ) where
   -- node j stands in slot s

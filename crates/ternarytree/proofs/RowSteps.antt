@@ -11,8 +11,8 @@ use Rattle.algebra.specs.Rows.{Row, identity}
 use Rattle.algebra.proofs.Digits.{xor-assoc}
 use Rattle.dense_block.specs.Words.{value}
 use Rattle.dense_block.proofs.Values.{Words}
-use Rattle.ternarytree.specs.Trees.{onward, Tree, up}
-use Rattle.ternarytree.specs.Paths.{join, letterAt, letter, above, rowAt}
+use Rattle.trees.specs.Trees.{onward, Tree, up}
+use Rattle.trees.specs.Paths.{join, letterAt, letter, above, rowAt}
 use Rattle.ternarytree.specs.Tables.{code, lettered, Added}
 use Rattle.ternarytree.proofs.Codes.{code-none}
 use Rattle.ternarytree.proofs.Flips.{value-flipped}

@@ -33,18 +33,19 @@ use Rattle.algebra.specs.Modes.{Modes, vacuumRule}
 use Rattle.dense_block.specs.Words.{value, wordsFor, zeroed, termOf}
 use Rattle.dense_block.specs.Blocks.{laid, listed}
 use Rattle.dense_block.proofs.Blocks.{row-laid, number-listed}
-use Rattle.ternarytree.specs.Trees.{Tree}
-use Rattle.ternarytree.specs.Leaves.{slotOf, rows}
-use Rattle.ternarytree.specs.Named.{Named, namedTree}
+use Rattle.trees.specs.Trees.{Tree}
+use Rattle.trees.specs.Leaves.{slotOf, rows}
+use Rattle.trees.specs.declared.Named.{Named}
+use Rattle.trees.specs.Named.{namedTree}
 use Rattle.ternarytree.specs.Building.{Outputs, needed, Built, treeChecks, outside, Input, qubitAt, reaches, packOf, treeOf, badSize, tooShort, badQubits, answer, FlatBuilt, NamedInput, namedAnswer, NamedBuilt}
 use Rattle.ternarytree.specs.Tables.{verdict}
-use Rattle.ternarytree.proofs.Sound.{sound}
-use Rattle.ternarytree.proofs.Naive.{Closed, naive-low}
-use Rattle.ternarytree.proofs.WithLeaves.{leaf-slot}
-use Rattle.ternarytree.proofs.Bounds.{Within, low-row}
-use Rattle.ternarytree.proofs.Flats.{flatpack-closed}
-use Rattle.ternarytree.proofs.NamedTrees.{named-passes}
-use Rattle.ternarytree.proofs.Fit.{naive-meets, named-closed, named-checked, named-meets}
+use Rattle.trees.proofs.Sound.{sound}
+use Rattle.trees.proofs.Naive.{Closed, naive-low}
+use Rattle.trees.proofs.WithLeaves.{leaf-slot}
+use Rattle.trees.proofs.Bounds.{Within, low-row}
+use Rattle.trees.proofs.Flats.{flatpack-closed}
+use Rattle.trees.proofs.NamedTrees.{named-passes}
+use Rattle.trees.proofs.Fit.{naive-meets, named-closed, named-checked, named-meets}
 use Rattle.ternarytree.proofs.Verdicts.{Passed, verdict-number, verdict-refuses, verdict-passes, passed-rows, passed-checked}
 
 -- ---- one outcome is left

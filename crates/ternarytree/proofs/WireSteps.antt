@@ -11,14 +11,16 @@ use lib.Dec.{ltb}
 use lib.ListN.{length, set, length-set}
 use Rattle.refusal.specs.Search.{found, none, leastBelow}
 use Rattle.refusal.proofs.Searches.{least-of, least-none}
-use Rattle.ternarytree.specs.Trees.{Child, nodeOf, Tree, parentIn, leafIn, twiceIn, faultOf, fault, firstFault}
-use Rattle.ternarytree.specs.Flatpacks.{Slot, entryIn, past}
+use Rattle.trees.specs.declared.Child.{Child}
+use Rattle.trees.specs.Trees.{nodeOf, Tree, parentIn, leafIn, twiceIn, faultOf, fault, firstFault}
+use Rattle.trees.specs.declared.Slot.{Slot}
+use Rattle.trees.specs.Flatpacks.{entryIn, past}
 use Rattle.ternarytree.specs.Building.{qubitAt, slotAt, faultSlot}
 use Rattle.ternarytree.specs.Tables.{code, Holds, AtMost, Blank, childIn, flat, NodeBelow, Children, Wired, slotVerdict}
 use Rattle.ternarytree.proofs.Codes.{in-order}
 use Rattle.ternarytree.proofs.EntrySteps.{child-is}
-use Rattle.ternarytree.proofs.Naive.{Closed}
-use Rattle.ternarytree.proofs.Flats.{flatpack-closed}
+use Rattle.trees.proofs.Naive.{Closed}
+use Rattle.trees.proofs.Flats.{flatpack-closed}
 
 -- ---- faults
 

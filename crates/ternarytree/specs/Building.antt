@@ -15,10 +15,13 @@ use Rattle.dense_block.specs.Words.{wordsFor, zeroed}
 use Rattle.dense_block.specs.Blocks.{laid, listed}
 use Rattle.ternarytree.specs.declared.Place.{Place}
 use Rattle.ternarytree.specs.declared.Place.the-variants.{Nowhere as nowhere, Slot as slot}
-use Rattle.ternarytree.specs.Trees.{Tree, twice, fault, firstFault, scattered, missing}
-use Rattle.ternarytree.specs.Leaves.{rows}
-use Rattle.ternarytree.specs.Flatpacks.{Slot, blank, number, Flatpack, flatTree}
-use Rattle.ternarytree.specs.Named.{Named, namedTree}
+use Rattle.trees.specs.Trees.{Tree, twice, fault, firstFault, scattered, missing}
+use Rattle.trees.specs.Leaves.{rows}
+use Rattle.trees.specs.declared.Slot.{Slot}
+use Rattle.trees.specs.declared.Slot.the-variants.{Blank as blank, Number as number}
+use Rattle.trees.specs.Flatpacks.{Flatpack, flatTree}
+use Rattle.trees.specs.declared.Named.{Named}
+use Rattle.trees.specs.Named.{namedTree}
 
 -- ---- what is written
 

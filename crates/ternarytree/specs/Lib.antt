@@ -1,8 +1,2 @@
-pub mod Trees
-pub mod Paths
-pub mod Leaves
-pub mod Flatpacks
-pub mod Named
-pub mod Hanging
 pub mod Building
 pub mod Tables

@@ -13,10 +13,14 @@ use Rattle.refusal.specs.Table.{_gives_, firstOf}
 use Rattle.algebra.specs.Modes.{Modes, vacuumRule}
 use Rattle.dense_block.specs.Words.{value, wordsOf, zeroed, termOf}
 use Rattle.dense_block.specs.Blocks.{laid, listed}
-use Rattle.ternarytree.specs.Trees.{Child, empty, Tree, nodeOf, up, parentIn, leafIn, twice, firstFault, scattered, missing}
-use Rattle.ternarytree.specs.Paths.{rowAt}
-use Rattle.ternarytree.specs.Leaves.{slotOf}
-use Rattle.ternarytree.specs.Flatpacks.{Slot, blank, number, unnamed, named, flatTree}
+use Rattle.trees.specs.declared.Child.{Child}
+use Rattle.trees.specs.declared.Child.the-variants.{Empty as empty}
+use Rattle.trees.specs.Trees.{Tree, nodeOf, up, parentIn, leafIn, twice, firstFault, scattered, missing}
+use Rattle.trees.specs.Paths.{rowAt}
+use Rattle.trees.specs.Leaves.{slotOf}
+use Rattle.trees.specs.declared.Slot.{Slot}
+use Rattle.trees.specs.declared.Slot.the-variants.{Blank as blank, Number as number}
+use Rattle.trees.specs.Flatpacks.{unnamed, named, flatTree}
 use Rattle.ternarytree.specs.Building.{settled, treeChecks, qubitAt, slotAt, reaches}
 
 -- element k of a list, 0 past its end

@@ -1,6 +1,5 @@
 // Trees built: from tables to rows, phases and the all-zero vacuum, and from flatpacks and names to tables.
 
-use crate::Named;
 use crate::chains;
 use crate::climbing;
 use crate::planting;
@@ -8,6 +7,7 @@ use crate::reading;
 use crate::writing;
 use refusal::Answer;
 use refusal::Refusal;
+use trees::Named;
 ghost use mathlib.Core.Path.{_≡_};
 ghost use mathlib.Core.List.{List};
 ghost use mathlib.Core.Bool.{Bool, false};
@@ -15,9 +15,9 @@ ghost use Prim.Native.Nat.{ℕ, _*_, _/_, _<_, _≤_};
 ghost use lib.ListN.{length};
 ghost use Rattle.refusal.specs.Table.{firstOf};
 ghost use Rattle.dense_block.specs.Words.{wordsFor};
-ghost use Rattle.ternarytree.specs.Trees.{Tree};
-ghost use Rattle.ternarytree.specs.Leaves.{slotOf, rows};
-ghost use Rattle.ternarytree.specs.Named.{namedTree};
+ghost use Rattle.trees.specs.Trees.{Tree};
+ghost use Rattle.trees.specs.Leaves.{slotOf, rows};
+ghost use Rattle.trees.specs.Named.{namedTree};
 ghost use Rattle.ternarytree.specs.Building.{qubitAt, treeChecks};
 ghost use Rattle.ternarytree.specs.Tables.{nth, AtMost, flat, Children, Wired, Slots, verdict, rowsAnswer, flatTask, Ready, TreeBuilt};
 

@@ -4,8 +4,8 @@ ghost use mathlib.Core.Path.{_≡_};
 ghost use mathlib.Core.Bool.{false};
 ghost use Prim.Native.Nat.{ℕ, _+_, _*_, _<_, _≤_};
 ghost use lib.ListN.{length};
-ghost use Rattle.ternarytree.specs.Trees.{Tree};
-ghost use Rattle.ternarytree.specs.Leaves.{chainEnd, slotOf};
+ghost use Rattle.trees.specs.Trees.{Tree};
+ghost use Rattle.trees.specs.Leaves.{chainEnd, slotOf};
 ghost use Rattle.ternarytree.specs.Tables.{nth, AtMost, Children, Slots};
 
 // The end of the Z chain that starts at the node in slot k, or slot k.

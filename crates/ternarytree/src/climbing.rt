@@ -5,7 +5,7 @@ ghost use mathlib.Core.Path.{_≡_};
 ghost use mathlib.Core.List.{List};
 ghost use Prim.Native.Nat.{ℕ, _+_, _*_, _<_, _≤_};
 ghost use lib.ListN.{length};
-ghost use Rattle.ternarytree.specs.Trees.{Tree, climb, scattered, missing};
+ghost use Rattle.trees.specs.Trees.{Tree, climb, scattered, missing};
 ghost use Rattle.ternarytree.specs.Building.{qubitAt};
 ghost use Rattle.ternarytree.specs.Tables.{nth, AtMost, Blank, flat, Parents, Children, Wired, verdict};
 

@@ -4,6 +4,8 @@
 //   from_flatpack_naive   a flatpack of nodes, with the leaves at the ends of Z chains
 //   find_fault            the first slot of a flatpack that is at fault
 //   from_name             Jordan-Wigner, parity, Bravyi-Kitaev or JKMN
+//
+// Trees, their rows and the theorems on them are in the crate `trees`.
 
 mod building; // building.rt: from tables to rows, and from flatpacks and names to tables
 mod chains; // chains.rt: naive trees, the slots of the leaves
@@ -14,6 +16,7 @@ mod writing; // writing.rt: rows from trees, into packed words
 
 use refusal::Answer;
 use refusal::Refusal;
+use trees::Named;
 ghost use mathlib.Core.Path.{_≡_};
 ghost use mathlib.Core.List.{[], _∷_};
 ghost use mathlib.Core.Bool.{true, false, _||_};
@@ -25,34 +28,10 @@ ghost use Rattle.refusal.specs.Table.{_of_, short};
 ghost use Rattle.dense_block.specs.Words.{zeroed};
 ghost use Rattle.ternarytree.specs.Building.{given, qubitAt, outside, reaches, unreadable, FlatBuilt, placed, faultPlace, asked, NamedBuilt};
 
-// What a slot of a tree holds.
-pub enum Child {
-    Empty,
-    Node(usize),
-    XLeaf(usize),
-    YLeaf(usize),
-    // With leaves: a number that is no entry's qubit and not above the largest.
-    Low,
-}
-
-// A slot of a flatpack.
-pub enum Slot {
-    Blank,
-    Number(usize),
-}
-
 // A slot of a flatpack, by its number: slot 3i + l is the X, Y or Z slot of entry i, for l = 0, 1 or 2.
 pub enum Place {
     Nowhere,
     Slot(usize),
-}
-
-// The named trees.
-pub enum Named {
-    JordanWigner,
-    Parity,
-    BravyiKitaev,
-    Jkmn,
 }
 
 // 0 or above 256.

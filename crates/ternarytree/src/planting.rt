@@ -1,10 +1,11 @@
 // The named trees, into tables.
 
-use crate::Named;
+use trees::Named;
 ghost use mathlib.Core.Path.{_≡_};
 ghost use Prim.Native.Nat.{ℕ, _+_, _*_, _<_, _≤_};
 ghost use lib.ListN.{length};
-ghost use Rattle.ternarytree.specs.Named.{bravyiKitaev, under, namedTree};
+ghost use Rattle.trees.specs.declared.Named.the-variants.{BravyiKitaev as bravyiKitaev};
+ghost use Rattle.trees.specs.Named.{under, namedTree};
 ghost use Rattle.ternarytree.specs.Tables.{Blank, Planted};
 
 // The slot of node k in the Bravyi-Kitaev tree: node 1 under 0 by X, then k under k / 2, by X if k is even and by Z if it is odd.

@@ -1,15 +1,16 @@
 // The entries and slots of a flatpack, into tables. A table has 0 for nothing, else one more than the number that it holds.
 
-use crate::Child;
 use crate::Place;
-use crate::Slot;
+use trees::Child;
+use trees::Slot;
 ghost use mathlib.Core.Path.{_≡_};
 ghost use mathlib.Core.Bool.{false};
 ghost use Prim.Native.Nat.{ℕ, _+_, _*_, _<_, _≤_};
 ghost use lib.ListN.{length};
-ghost use Rattle.ternarytree.specs.Trees.{Tree, node, nodeOf, rowOf, parentIn, leafIn, twiceIn, leafFault, faultOf};
+ghost use Rattle.trees.specs.declared.Child.the-variants.{Node as node};
+ghost use Rattle.trees.specs.Trees.{Tree, nodeOf, rowOf, parentIn, leafIn, twiceIn, leafFault, faultOf};
 ghost use Rattle.refusal.specs.Search.{found};
-ghost use Rattle.ternarytree.specs.Flatpacks.{entryIn, past, leafNumbered};
+ghost use Rattle.trees.specs.Flatpacks.{entryIn, past, leafNumbered};
 ghost use Rattle.ternarytree.specs.Building.{qubitAt, slotAt, faultSlot, placed};
 ghost use Rattle.ternarytree.specs.Tables.{nth, code, Holds, AtMost, Blank, childIn, flat, NodeBelow, Children, Wired, slotVerdict};
 

@@ -4,8 +4,8 @@ ghost use mathlib.Core.Path.{_≡_};
 ghost use Prim.Native.Nat.{ℕ, _+_, _*_, _/_, _<_, _≤_};
 ghost use lib.ListN.{length};
 ghost use Rattle.algebra.specs.Modes.{Modes, vacuumRule};
-ghost use Rattle.ternarytree.specs.Trees.{Tree};
-ghost use Rattle.ternarytree.specs.Paths.{letterAt};
+ghost use Rattle.trees.specs.Trees.{Tree};
+ghost use Rattle.trees.specs.Paths.{letterAt};
 ghost use Rattle.ternarytree.specs.Tables.{nth, AtMost, Columns, Parents, Slots, flipped, lettered, Fits, Added, RowWritten, RowsWritten, StoredX};
 
 // Flips column j of a row.

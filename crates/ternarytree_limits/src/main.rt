@@ -2,7 +2,7 @@
 // parts, the phases, the vacuum and the room, all of which held 7 before. Of a named tree it writes how many of them are 0 and how many are still 7.
 
 use refusal::Answer;
-use ternarytree::Named;
+use trees::Named;
 ghost use Prim.Native.Nat.{_≤_};
 ghost use lib.ListN.{length};
 

@@ -7,7 +7,7 @@ use Rattle.rowreport.proofs.feed_all.Statement.{statement}
 use Rattle.rowreport.proofs.feed_all.Tie as tie
 use Rattle.rowreport.proofs.feed_all.Reads as reads
 use Rattle.rowreport.proofs.feed_all.Lts as lts
-use Rattle.report.proofs.read.start.Reads as start-reads
+use Rattle.flatpack_text.proofs.read.start.Reads as start-reads
 use Rattle.rowreport.proofs.feed_some.Reads as feed-some-reads
 
 abbrev Inv-loop : tie.InvT-loop

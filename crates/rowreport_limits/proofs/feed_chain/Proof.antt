@@ -7,7 +7,7 @@ use Rattle.rowreport_limits.proofs.feed_chain.Statement.{statement}
 use Rattle.rowreport_limits.proofs.feed_chain.Tie as tie
 use Rattle.rowreport_limits.proofs.feed_chain.Reads as reads
 use Rattle.rowreport_limits.proofs.feed_chain.Lts as lts
-use Rattle.report.proofs.read.start.Reads as start-reads
+use Rattle.flatpack_text.proofs.read.start.Reads as start-reads
 use Rattle.rowreport_limits.proofs.feed_node.Reads as feed-node-reads
 
 abbrev Inv-loop : tie.InvT-loop

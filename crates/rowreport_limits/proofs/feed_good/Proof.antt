@@ -7,7 +7,7 @@ use Rattle.rowreport_limits.proofs.feed_good.Statement.{statement}
 use Rattle.rowreport_limits.proofs.feed_good.Tie as tie
 use Rattle.rowreport_limits.proofs.feed_good.Reads as reads
 use Rattle.rowreport_limits.proofs.feed_good.Lts as lts
-use Rattle.report.proofs.read.feed.Reads as feed-reads
+use Rattle.flatpack_text.proofs.read.feed.Reads as feed-reads
 
 abbrev Inv-loop : tie.InvT-loop
 Inv-loop n table₀ t₀ i₀ t6 table t i = (i ≤ n) × (length table ≡ length table₀)

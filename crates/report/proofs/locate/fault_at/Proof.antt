@@ -5,8 +5,8 @@ use Rattle.report.proofs.locate.fault_at.Statement.{statement}
 use Rattle.report.proofs.locate.fault_at.Tie as tie
 use Rattle.report.proofs.locate.fault_at.Reads as reads
 use Rattle.report.proofs.locate.fault_at.Lts as lts
-use Rattle.report.proofs.flatpack.filled_slots.Reads as filled-slots-reads
-use Rattle.report.proofs.flatpack.plain_numbers.Reads as plain-numbers-reads
+use Rattle.flatpack_text.proofs.flatpack.filled_slots.Reads as filled-slots-reads
+use Rattle.flatpack_text.proofs.flatpack.plain_numbers.Reads as plain-numbers-reads
 use Rattle.ternarytree.proofs.find_fault.Reads as find-fault-reads
 
 slice-aggregate-plain-numbers : tie.Need-slice-aggregate-plain-numbers

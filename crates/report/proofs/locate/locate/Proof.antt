@@ -7,7 +7,7 @@ use Rattle.report.proofs.locate.locate.Reads as reads
 use Rattle.report.proofs.locate.locate.Lts as lts
 use Rattle.report.proofs.locate.fault_at.Reads as fault-at-reads
 use Rattle.report.proofs.locate.site_of.Reads as site-of-reads
-use Rattle.report.proofs.read.finish.Reads as finish-reads
+use Rattle.flatpack_text.proofs.read.finish.Reads as finish-reads
 
 finish-requires : tie.Need-finish-requires
 finish-requires c κs = search needs

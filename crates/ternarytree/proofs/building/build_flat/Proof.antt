@@ -4,10 +4,10 @@ use mathlib.Core.List.{List}
 use native.Mathlib.Omega.{arith}
 use lib.ListN.{length, getD-replicate}
 use mathlib.Core.Path.{_≡_, refl, sym, _∙_}
-use Rattle.ternarytree.specs.Trees.{Tree}
+use Rattle.trees.specs.Trees.{Tree}
 use Rattle.ternarytree.specs.Tables.{flat, Wired, Children, verdict, Ready}
-use Rattle.ternarytree.proofs.Naive.{Closed}
-use Rattle.ternarytree.proofs.Flats.{flatpack-closed}
+use Rattle.trees.proofs.Naive.{Closed}
+use Rattle.trees.proofs.Flats.{flatpack-closed}
 use Rattle.ternarytree.proofs.ChainSteps.{children-most}
 use Rattle.ternarytree.proofs.BuildSteps.{flat-ready}
 use Rattle.ternarytree.proofs.Verdicts.{verdict-number, verdict-passes, tree-refused, tree-passed}

@@ -3,10 +3,10 @@ use native.Mathlib.Omega.{arith}
 use lib.ListN.{getD-replicate}
 use mathlib.Core.Path.{refl}
 use mathlib.Core.Bool.{false}
-use Rattle.ternarytree.specs.Named.{namedTree}
+use Rattle.trees.specs.Named.{namedTree}
 use Rattle.ternarytree.specs.Tables.{Ready}
-use Rattle.ternarytree.proofs.NamedTrees.{named-passes}
-use Rattle.ternarytree.proofs.Fit.{named-closed}
+use Rattle.trees.proofs.NamedTrees.{named-passes}
+use Rattle.trees.proofs.Fit.{named-closed}
 use Rattle.ternarytree.proofs.ChainSteps.{children-most}
 use Rattle.ternarytree.proofs.BuildSteps.{named-ready}
 use Rattle.ternarytree.proofs.Verdicts.{tree-passed}

@@ -1,8 +1,8 @@
 -- `build_rows` meets its contract: the rows are written and the vacuum cleared, and if the vacuum rule fails all is cleared.
 use native.Mathlib.Omega.{arith}
 use mathlib.Core.Path.{sym, _∙_}
-use Rattle.ternarytree.specs.Trees.{Tree}
-use Rattle.ternarytree.specs.Leaves.{slotOf}
+use Rattle.trees.specs.Trees.{Tree}
+use Rattle.trees.specs.Leaves.{slotOf}
 use Rattle.ternarytree.specs.Tables.{Ready, RowsWritten}
 use Rattle.ternarytree.proofs.ClimbSteps.{parents-most}
 use Rattle.ternarytree.proofs.BuildSteps.{slots-low, phases-small, stored, built-done, built-broken}

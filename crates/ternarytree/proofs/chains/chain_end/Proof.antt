@@ -2,8 +2,8 @@
 use Prim.Native.Nat.{ℕ, _+_, _-_, _*_, _<_, _≤_}
 use native.Mathlib.Omega.{arith}
 use mathlib.Core.Path.{_≡_, refl, ap, _∙_, sym}
-use Rattle.ternarytree.specs.Trees.{Tree}
-use Rattle.ternarytree.specs.Leaves.{chainEnd}
+use Rattle.trees.specs.Trees.{Tree}
+use Rattle.trees.specs.Leaves.{chainEnd}
 use Rattle.ternarytree.specs.Tables.{Children}
 use Rattle.ternarytree.proofs.ChainSteps.{endFrom, chain-none, chain-some, end-stop, end-none, end-step}
 use borrow.Author.Needs.{needs}

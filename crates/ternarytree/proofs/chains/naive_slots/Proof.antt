@@ -6,8 +6,8 @@ use mathlib.Core.Path.{_≡_, refl, ap, _∙_, sym}
 use mathlib.Core.Bool.{false}
 use borrow.Author.Count.{below-more}
 use lib.ListN.{length, length-set}
-use Rattle.ternarytree.specs.Trees.{Tree}
-use Rattle.ternarytree.specs.Leaves.{chainEnd, slotOf}
+use Rattle.trees.specs.Trees.{Tree}
+use Rattle.trees.specs.Leaves.{chainEnd, slotOf}
 use Rattle.ternarytree.specs.Tables.{nth, Children}
 use Rattle.ternarytree.proofs.Codes.{in-order}
 use borrow.Author.Needs.{needs}

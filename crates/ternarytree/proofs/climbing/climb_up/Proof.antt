@@ -2,7 +2,7 @@
 use Prim.Native.Nat.{ℕ, _≤_, _<_}
 use native.Mathlib.Omega.{arith}
 use mathlib.Core.Path.{_≡_, refl, _∙_, sym}
-use Rattle.ternarytree.specs.Trees.{Tree, climb}
+use Rattle.trees.specs.Trees.{Tree, climb}
 use Rattle.ternarytree.specs.Tables.{Parents}
 use Rattle.ternarytree.proofs.ClimbSteps.{climb-none, climb-stop, climb-step}
 use borrow.Author.Needs.{needs}

@@ -3,7 +3,7 @@ use Prim.Native.Nat.{ℕ, _-_, _≤_, _<_}
 use native.Mathlib.Omega.{arith}
 use mathlib.Core.Path.{_≡_, refl, _∙_, sym}
 use borrow.Author.Count.{below-more}
-use Rattle.ternarytree.specs.Trees.{Tree, climb}
+use Rattle.trees.specs.Trees.{Tree, climb}
 use Rattle.ternarytree.specs.Tables.{nth, Parents}
 use Rattle.ternarytree.proofs.ClimbSteps.{top-has-parent, another-top, all-to-top}
 use borrow.Author.Needs.{needs}

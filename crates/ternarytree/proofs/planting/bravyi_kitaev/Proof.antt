@@ -1,6 +1,6 @@
 -- `bravyi_kitaev` meets its contract: case by case.
 use borrow.Author.Tests.{lt-ltb, le-ltb, eq-eqb, ne-eqb}
-use Rattle.ternarytree.specs.Named.{under}
+use Rattle.trees.specs.Named.{under}
 use borrow.Author.Needs.{needs}
 use Rattle.ternarytree.proofs.planting.bravyi_kitaev.Statement.{statement}
 use Rattle.ternarytree.proofs.planting.bravyi_kitaev.Tie as tie

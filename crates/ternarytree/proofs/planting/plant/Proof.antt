@@ -4,8 +4,8 @@ use native.Mathlib.Omega.{arith}
 use mathlib.Core.Path.{_≡_, sym, ap}
 use mathlib.Core.List.{List}
 use lib.ListN.{set}
-use Rattle.ternarytree.specs.Named.{under}
-use Rattle.ternarytree.proofs.NamedTrees.{growing}
+use Rattle.trees.specs.Named.{under}
+use Rattle.trees.proofs.NamedTrees.{growing}
 use Rattle.ternarytree.proofs.PlantSteps.{Planting, planting-start, planting-next, planting-end, slot-low}
 use borrow.Author.Needs.{needs}
 use Rattle.ternarytree.proofs.planting.plant.Statement.{statement}

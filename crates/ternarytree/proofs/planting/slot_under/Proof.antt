@@ -1,7 +1,8 @@
 -- `slot_under` meets its contract: tree by tree.
 use mathlib.Core.Path.{_≡_, sym, ap, _∙_}
-use Rattle.ternarytree.specs.Named.{Named, under}
-use Rattle.ternarytree.proofs.NamedTrees.{jkmn-slot}
+use Rattle.trees.specs.declared.Named.{Named}
+use Rattle.trees.specs.Named.{under}
+use Rattle.trees.proofs.NamedTrees.{jkmn-slot}
 use borrow.Author.Needs.{needs}
 use Rattle.ternarytree.proofs.planting.slot_under.Statement.{statement}
 use Rattle.ternarytree.proofs.planting.slot_under.Tie as tie

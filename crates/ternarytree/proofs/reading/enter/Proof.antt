@@ -8,7 +8,7 @@ use lib.Dec.{eqb}
 use lib.ListN.{length, length-set}
 use Rattle.refusal.specs.Search.{someBelow}
 use Rattle.refusal.proofs.Bools.{never}
-use Rattle.ternarytree.specs.Flatpacks.{entryIn}
+use Rattle.trees.specs.Flatpacks.{entryIn}
 use Rattle.ternarytree.specs.Building.{qubitAt}
 use Rattle.ternarytree.specs.Tables.{Holds}
 use Rattle.ternarytree.proofs.EntrySteps.{no-entry, entry-mark, no-earlier, twice-at, twice-none}

@@ -1,6 +1,6 @@
 -- `leaf_numbered` meets its contract: by whether m is even.
 use borrow.Author.Tests.{eq-eqb, ne-eqb}
-use Rattle.ternarytree.specs.Flatpacks.{leafNumbered}
+use Rattle.trees.specs.Flatpacks.{leafNumbered}
 use borrow.Author.Needs.{needs}
 use Rattle.ternarytree.proofs.reading.leaf_numbered.Statement.{statement}
 use Rattle.ternarytree.proofs.reading.leaf_numbered.Tie as tie

@@ -3,7 +3,7 @@ use Prim.Native.Nat.{ℕ, _+_}
 use native.Mathlib.Numerals.{add-one}
 use native.Mathlib.Omega.{arith}
 use mathlib.Core.Path.{_≡_, sym, ap, _∙_}
-use Rattle.ternarytree.specs.Trees.{nodeOf}
+use Rattle.trees.specs.Trees.{nodeOf}
 use Rattle.ternarytree.specs.Tables.{code}
 use borrow.Author.Needs.{needs}
 use Rattle.ternarytree.proofs.reading.node_code.Statement.{statement}

@@ -3,7 +3,7 @@ use Prim.Native.Nat.{ℕ, _-_, _≤_, _<_}
 use native.Mathlib.Omega.{arith}
 use mathlib.Core.Path.{_≡_, refl}
 use mathlib.Core.Logic.{⊎-elim}
-use Rattle.ternarytree.specs.Flatpacks.{past}
+use Rattle.trees.specs.Flatpacks.{past}
 use Rattle.ternarytree.specs.Building.{qubitAt}
 use Rattle.ternarytree.proofs.EntrySteps.{past-more}
 use borrow.Author.Needs.{needs}

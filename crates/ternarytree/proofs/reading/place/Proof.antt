@@ -1,7 +1,7 @@
 -- `place` meets its contract: by what the slot holds.
 use native.Mathlib.Omega.{arith}
 use mathlib.Core.Path.{_≡_, refl, sym, ap, _∙_}
-use Rattle.ternarytree.specs.Trees.{nodeOf, rowOf, faultOf}
+use Rattle.trees.specs.Trees.{nodeOf, rowOf, faultOf}
 use Rattle.ternarytree.proofs.PlaceSteps.{far-leaf, placed-nothing, placed-node, placed-leaf}
 use borrow.Author.Needs.{needs}
 use Rattle.ternarytree.proofs.reading.place.Statement.{statement}

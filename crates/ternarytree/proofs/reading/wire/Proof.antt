@@ -4,7 +4,7 @@ use native.Mathlib.Omega.{arith}
 use mathlib.Core.Path.{_≡_, refl, _∙_, sym}
 use mathlib.Core.List.{List}
 use lib.ListN.{getD-replicate}
-use Rattle.ternarytree.specs.Trees.{Tree}
+use Rattle.trees.specs.Trees.{Tree}
 use Rattle.ternarytree.specs.Building.{faultSlot}
 use Rattle.ternarytree.specs.Tables.{flat, slotVerdict}
 use Rattle.ternarytree.proofs.WireSteps.{Wiring, wired-none, wiring-child, wiring-below, wiring-fault, wiring-next, wiring-end}

@@ -5,8 +5,8 @@ use mathlib.Core.Path.{_≡_, refl, ap, _∙_, sym}
 use lib.ListN.{length}
 use Rattle.dense_block.specs.Words.{value}
 use Rattle.dense_block.proofs.Values.{Words}
-use Rattle.ternarytree.specs.Trees.{Tree}
-use Rattle.ternarytree.specs.Paths.{above}
+use Rattle.trees.specs.Trees.{Tree}
+use Rattle.trees.specs.Paths.{above}
 use Rattle.ternarytree.specs.Tables.{nth, Parents, Columns}
 use Rattle.ternarytree.proofs.RowSteps.{Left, rowUp, letter-small, left-start, left-letter, left-none, left-step, above-stop, above-zero, above-step}
 use borrow.Author.Needs.{needs}

@@ -5,7 +5,7 @@ use mathlib.Core.Path.{_≡_, refl, sym, ap, _∙_}
 use borrow.Rule.Slice.PartMut.{same-len-mid}
 use lib.ListN.{length, length-set}
 use Rattle.dense_block.proofs.Terms.{row-within}
-use Rattle.ternarytree.specs.Trees.{Tree}
+use Rattle.trees.specs.Trees.{Tree}
 use Rattle.ternarytree.specs.Tables.{nth, Parents, Columns, Slots, RowsWritten}
 use Rattle.ternarytree.proofs.AllRows.{length-part, rows-start, rows-step}
 use borrow.Author.Needs.{needs}
