@@ -11,27 +11,27 @@ use lib.ListN.{getD}
 use Rattle.refusal.specs.Search.{Least, found, none, someBelow}
 use Rattle.refusal.proofs.Searches.{some-of, none-of}
 use Rattle.trees.specs.Trees.{some, onward, Tree, up, climb, parentIn, leafIn, scattered, missing}
-use Rattle.ternarytree.specs.Tables.{nth, code, AtMost, Parents, Wired, slotVerdict, verdict}
-use Rattle.ternarytree.proofs.Codes.{code-some, code-none}
+use Rattle.ternarytree.specs.Tables.{nth, code, AtMost, Parents, linkOf, Links, Ways, Wired, slotVerdict, verdict}
+use Rattle.ternarytree.proofs.Codes.{code-some, code-none, link-none}
 use Rattle.trees.proofs.Sound.{parent-names}
 
 -- ---- climbs
 
-pub climb-stop : (t : Tree) (l i : ℕ) → code (up t i) ≡ 0 → climb t l i ≡ i
+pub climb-stop : (t : Tree) (l i u : ℕ) → u ≡ linkOf (code (up t i)) → u / 4 ≡ 0 → climb t l i ≡ i
 unfolding climb
-climb-stop t zero i h = refl
-climb-stop t (suc l) i h = rw (code-none (up t i) h)
+climb-stop t zero i u h z = refl
+climb-stop t (suc l) i u h z = rw (link-none (up t i) u h (omega arith))
 
-pub climb-step : (t : Tree) (l i u : ℕ) → code (up t i) ≡ u → u ≢ 0 → 0 < l → climb t l i ≡ climb t (l - 1) ((u - 1) / 3)
+pub climb-step : (t : Tree) (l i u : ℕ) → u ≡ linkOf (code (up t i)) → u / 4 ≢ 0 → 0 < l → climb t l i ≡ climb t (l - 1) (u / 4 - 1)
 unfolding climb
 climb-step t zero i u h ne p = absurd (omega arith)
 climb-step t (suc l) i u h ne p =
     let e : suc l - 1 ≡ l = omega arith in
     rw e (go (up t i) h)
   where
-    go : (o : Least) → code o ≡ u → onward o i (λ k. climb t l (k / 3)) ≡ climb t l ((u - 1) / 3)
-    go (found k) e = let s : k ≡ u - 1 = omega arith in rw s
-    go none e = absurd (ne (sym e))
+    go : (o : Least) → u ≡ linkOf (code o) → onward o i (λ k. climb t l (k / 3)) ≡ climb t l (u / 4 - 1)
+    go (found k) e = let s : k / 3 ≡ u / 4 - 1 = omega arith in rw s
+    go none e = absurd (ne (omega arith))
 
 pub climb-none : (t : Tree) (l i : ℕ) → l ≡ 0 → climb t l i ≡ i
 unfolding climb
@@ -78,6 +78,14 @@ module _ (t : Tree) (n : ℕ) (l : List ℕ) (p : Parents t n l) where
       sym (all-hang t (rw (← p .size) at root) (rw (← p .size) at all-n))
 
 -- ---- the tables
+
+-- links made from parents
+module _ (n : ℕ) (ps ls : List ℕ) (e : (i : ℕ) → i < n → nth ls i ≡ linkOf (nth ps i)) where
+  pub linked-ways : AtMost n (3 * n) (nth ps) → Ways n ls
+  linked-ways most i h = (omega (arith, e i h, most i h), omega (arith, e i h))
+
+  pub linked : (t : Tree) → Parents t n ps → Links t n ls
+  linked t p = record { size = p .size; ups = λ i h. e i h ∙ ap linkOf (p .ups i h) }
 
 code-most : (t : Tree) (b j : ℕ) (o : Least) → parentIn t b j ≡ o → code o ≤ b
 code-most t b j (found k) e = parent-names t b j k e .0

@@ -11,7 +11,7 @@ use lib.ListN.{getD, set, length}
 use lib.Seq.{getD-set-same, getD-set-other}
 use Rattle.refusal.specs.Search.{Least, found, none, orElse, leastBelow}
 use Rattle.trees.specs.Trees.{some}
-use Rattle.ternarytree.specs.Tables.{code, uncode, Holds}
+use Rattle.ternarytree.specs.Tables.{code, uncode, linkOf, Holds}
 
 pub code-some : (o : Least) → code o ≢ 0 → some o ≡ true
 code-some (found i) h = refl
@@ -20,6 +20,10 @@ code-some none h = absurd (h refl)
 pub code-none : (o : Least) → code o ≡ 0 → o ≡ none
 code-none (found i) h = absurd (omega arith)
 code-none none h = refl
+
+pub link-none : (o : Least) (u : ℕ) → u ≡ linkOf (code o) → u < 4 → o ≡ none
+link-none (found i) u e h = absurd (omega arith)
+link-none none u e h = refl
 
 pub uncode-code : (o : Least) (c : ℕ) → c ≡ code o → uncode c ≡ o
 uncode-code (found i) c h = rw h

@@ -1,7 +1,7 @@
 -- Steps of `add_row`: what is written and what is still to be written make the row of a slot.
-use Prim.Native.Nat.{ℕ, zero, suc, _+_, _-_, _/_, _%_, _^_, _<_}
+use Prim.Native.Nat.{ℕ, zero, suc, _+_, _-_, _/_, _%_, _^_, _<_, _≤_}
 use native.Mathlib.Omega.{arith}
-use mathlib.Core.Path.{_≡_, refl, sym, ap, _∙_}
+use mathlib.Core.Path.{_≡_, refl, sym, _∙_}
 use mathlib.Core.Logic.{_≢_}
 use mathlib.Core.List.{List}
 use lib.ListN.{length}
@@ -13,13 +13,13 @@ use Rattle.dense_block.specs.Words.{value}
 use Rattle.dense_block.proofs.Values.{Words}
 use Rattle.trees.specs.Trees.{onward, Tree, up}
 use Rattle.trees.specs.Paths.{join, letterAt, letter, above, rowAt}
-use Rattle.ternarytree.specs.Tables.{code, lettered, Added}
-use Rattle.ternarytree.proofs.Codes.{code-none}
+use Rattle.ternarytree.specs.Tables.{code, linkOf, lettered, Added}
+use Rattle.ternarytree.proofs.Codes.{link-none}
 use Rattle.ternarytree.proofs.Flips.{value-flipped}
 
--- the row from slot s up, with f steps left
-pub rowUp : Tree → ℕ → ℕ → Row
-rowUp t f s = join (letter t s) (above t f (s / 3))
+-- the row from letter l of node i up, with f steps left
+pub rowUp : Tree → ℕ → ℕ → ℕ → Row
+rowUp t f i l = join (letterAt l (2 ^ t .qubit i)) (above t f i)
 
 -- what is written to vx and vz with phase p, and the row r that is still to be written, make the row of slot k
 pub record Left (t : Tree) (k vx vz p : ℕ) (xs zs : List ℕ) (r : Row) : Type 0 where
@@ -55,20 +55,20 @@ add-turns p a b = omega arith
 -- ---- turns of the loop
 
 module _ (t : Tree) (k vx vz : ℕ) where
-  pub left-start : (f : ℕ) (xs zs : List ℕ) → t .n ≡ f → value xs ≡ vx → value zs ≡ vz → Left t k vx vz 0 xs zs (rowUp t f k)
-  unfolding rowUp rowAt
+  pub left-start : (f : ℕ) (xs zs : List ℕ) → t .n ≡ f → value xs ≡ vx → value zs ≡ vz → Left t k vx vz 0 xs zs (rowUp t f (k / 3) (k % 3))
+  unfolding rowUp rowAt letter
   left-start f xs zs e ex ez = rw (← e) (record { phase = omega arith; x-part = rw ex; z-part = rw ez })
 
-  -- the letter of slot s is written
-  pub left-letter : (s f p y q : ℕ) (xs zs xs′ zs′ : List ℕ) → Left t k vx vz p xs zs (rowUp t f s) → t .qubit (s / 3) ≡ q → y ≡ letterAt (s % 3) 0 .p
+  -- letter l of node i is written
+  pub left-letter : (i l f p y q : ℕ) (xs zs xs′ zs′ : List ℕ) → Left t k vx vz p xs zs (rowUp t f i l) → t .qubit i ≡ q → y ≡ letterAt l 0 .p
       → q / 64 < length xs → q / 64 < length zs → Words xs → Words zs
-      → xs′ ≡ lettered (letterAt (s % 3) 1 .x) xs q → zs′ ≡ lettered (letterAt (s % 3) 1 .z) zs q
-      → Left t k vx vz ((p + y) % 4) xs′ zs′ (above t f (s / 3))
-  unfolding rowUp letter
-  left-letter s f p y q xs zs xs′ zs′ l eq ey hx hz wx wz ex ez = record {
-    phase = l .phase ∙ rw (ey, letter-p (s % 3) (2 ^ t .qubit (s / 3))) (add-turns p (letterAt (s % 3) (2 ^ t .qubit (s / 3)) .p) (above t f (s / 3) .p));
-    x-part = l .x-part ∙ rw (ex, put-x (s % 3) q xs hx wx, eq) (sym (xor-assoc (value xs) (letterAt (s % 3) (2 ^ q) .x) (above t f (s / 3) .x)));
-    z-part = l .z-part ∙ rw (ez, put-z (s % 3) q zs hz wz, eq) (sym (xor-assoc (value zs) (letterAt (s % 3) (2 ^ q) .z) (above t f (s / 3) .z)));
+      → xs′ ≡ lettered (letterAt l 1 .x) xs q → zs′ ≡ lettered (letterAt l 1 .z) zs q
+      → Left t k vx vz ((p + y) % 4) xs′ zs′ (above t f i)
+  unfolding rowUp
+  left-letter i l f p y q xs zs xs′ zs′ r eq ey hx hz wx wz ex ez = record {
+    phase = r .phase ∙ rw (ey, letter-p l (2 ^ t .qubit i)) (add-turns p (letterAt l (2 ^ t .qubit i) .p) (above t f i .p));
+    x-part = r .x-part ∙ rw (ex, put-x l q xs hx wx, eq) (sym (xor-assoc (value xs) (letterAt l (2 ^ q) .x) (above t f i .x)));
+    z-part = r .z-part ∙ rw (ez, put-z l q zs hz wz, eq) (sym (xor-assoc (value zs) (letterAt l (2 ^ q) .z) (above t f i .z)));
   }
 
   -- nothing is left to write
@@ -84,23 +84,26 @@ module _ (t : Tree) (k vx vz : ℕ) where
 
 -- ---- what is above a node
 
-pub above-stop : (t : Tree) (l i : ℕ) → code (up t i) ≡ 0 → above t l i ≡ identity
+pub above-stop : (t : Tree) (f i u : ℕ) → u ≡ linkOf (code (up t i)) → u < 4 → above t f i ≡ identity
 unfolding above
-above-stop t zero i h = refl
-above-stop t (suc l) i h = rw (code-none (up t i) h)
+above-stop t zero i u h z = refl
+above-stop t (suc f) i u h z = rw (link-none (up t i) u h z)
 
-pub above-zero : (t : Tree) (l i : ℕ) → l ≡ 0 → above t l i ≡ identity
+pub above-zero : (t : Tree) (f i : ℕ) → f ≡ 0 → above t f i ≡ identity
 unfolding above
 above-zero t zero i h = refl
-above-zero t (suc l) i h = absurd (omega arith)
+above-zero t (suc f) i h = absurd (omega arith)
 
-pub above-step : (t : Tree) (l i u : ℕ) → code (up t i) ≡ u → u ≢ 0 → l ≢ 0 → above t l i ≡ rowUp t (l - 1) (u - 1)
-unfolding above rowUp
-above-step t zero i u h ne p = absurd (p refl)
-above-step t (suc l) i u h ne p =
-    let e : suc l - 1 ≡ l = omega arith in
+pub above-step : (t : Tree) (f i u : ℕ) → u ≡ linkOf (code (up t i)) → 4 ≤ u → f ≢ 0 → above t f i ≡ rowUp t (f - 1) (u / 4 - 1) (u % 4)
+unfolding above rowUp letter
+above-step t zero i u h g p = absurd (p refl)
+above-step t (suc f) i u h g p =
+    let e : suc f - 1 ≡ f = omega arith in
     rw e (go (up t i) h)
   where
-    go : (o : Least) → code o ≡ u → onward o identity (λ k. join (letter t k) (above t l (k / 3))) ≡ join (letter t (u - 1)) (above t l ((u - 1) / 3))
-    go (found k) e = let s : k ≡ u - 1 = omega arith in rw s
-    go none e = absurd (ne (sym e))
+    go : (o : Least) → u ≡ linkOf (code o) → onward o identity (λ k. join (letterAt (k % 3) (2 ^ t .qubit (k / 3))) (above t f (k / 3))) ≡ join (letterAt (u % 4) (2 ^ t .qubit (u / 4 - 1))) (above t f (u / 4 - 1))
+    go (found k) e =
+        let s : k / 3 ≡ u / 4 - 1 = omega arith in
+        let r : k % 3 ≡ u % 4 = omega arith in
+        rw (s, r)
+    go none e = absurd (omega arith)

@@ -1,5 +1,5 @@
 -- What the tables of the code hold, for the contracts of its parts.
-use Prim.Native.Nat.{ℕ, zero, suc, _*_, _/_, _%_, _^_, _<_, _≤_}
+use Prim.Native.Nat.{ℕ, zero, suc, _+_, _*_, _/_, _%_, _^_, _<_, _≤_}
 use mathlib.Core.Path.{_≡_}
 use mathlib.Core.List.{List, [], _∷_}
 use mathlib.Core.Bool.{Bool, cond, not, _&&_, _||_}
@@ -74,6 +74,19 @@ pub record Columns (t : Tree) (n : ℕ) (l : List ℕ) : Type 0 where
 pub record Parents (t : Tree) (n : ℕ) (l : List ℕ) : Type 0 where
   pub size : t .n ≡ n
   pub ups : Holds n (up t) l
+
+-- the way up as one number, by the number that a table of parents holds: 4 times one more than the node above, or 0, and the letter
+abbrev pub linkOf : ℕ → ℕ
+linkOf p = 4 * ((p + 2) / 3) + (p + 2) % 3
+
+-- the ways up from its nodes
+pub record Links (t : Tree) (n : ℕ) (l : List ℕ) : Type 0 where
+  pub size : t .n ≡ n
+  pub ups : (i : ℕ) → i < n → nth l i ≡ linkOf (code (up t i))
+
+-- n ways up lead to some of n nodes, by three letters
+abbrev pub Ways : ℕ → List ℕ → Type 0
+Ways n l = (i : ℕ) → i < n → (nth l i / 4 ≤ n) × (nth l i % 4 < 3)
 
 -- the nodes that its slots hold, the first k of them
 pub record Children (t : Tree) (n k : ℕ) (l : List ℕ) : Type 0 where

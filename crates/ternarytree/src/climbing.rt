@@ -7,21 +7,34 @@ ghost use Prim.Native.Nat.{ℕ, _+_, _*_, _<_, _≤_};
 ghost use lib.ListN.{length};
 ghost use Rattle.trees.specs.Trees.{Tree, climb, scattered, missing};
 ghost use Rattle.ternarytree.specs.Building.{qubitAt};
-ghost use Rattle.ternarytree.specs.Tables.{nth, AtMost, Blank, flat, Parents, Children, Wired, verdict};
+ghost use Rattle.ternarytree.specs.Tables.{nth, AtMost, Blank, flat, Parents, linkOf, Links, Ways, Children, Wired, verdict};
+
+// The way up from each of n nodes: 4 times one more than the node above it, or 0 if there is none, and the letter of the slot that it stands in.
+pub fn link(parents: &[usize; 256], n: usize, links: &mut [usize; 256])
+    requires { ⌜ (n ≤ 256) × AtMost n (3 * n) (nth (now parents)) × (length (now links) ≡ 256) ⌝ }
+    ensures { λ _. ⌜ ((i : ℕ) → i < n → nth (now (links .exit)) i ≡ linkOf (nth (now (parents .entry)) i)) ⌝ }
+{
+    let mut i = 0;
+    while i < n {
+        let up = parents[i] + 2;
+        links[i] = 4 * (up / 3) + up % 3;
+        i += 1;
+    }
+}
 
 // The node that n steps up from node i lead to.
-pub fn climb_up(parents: &[usize; 256], n: usize, i: usize) -> usize
-    requires { ⌜ (n ≤ 256) × (i < n) × AtMost n (3 * n) (nth (now parents)) ⌝ }
-    ensures { λ r. ⌜ (r < n) × ((t : Tree) → Parents t n (now (parents .entry)) → r ≡ climb t n i) ⌝ }
+pub fn climb_up(links: &[usize; 256], n: usize, i: usize) -> usize
+    requires { ⌜ (n ≤ 256) × (i < n) × Ways n (now links) ⌝ }
+    ensures { λ r. ⌜ (r < n) × ((t : Tree) → Links t n (now (links .entry)) → r ≡ climb t n i) ⌝ }
 {
     let mut at = i;
     let mut left = n;
     while 0 < left {
-        let up = parents[at];
+        let up = links[at] / 4;
         if up == 0 {
             return at;
         }
-        at = (up - 1) / 3;
+        at = up - 1;
         left -= 1;
     }
     at
@@ -32,13 +45,15 @@ pub fn is_scattered(parents: &[usize; 256], n: usize) -> bool
     requires { ⌜ (n ≤ 256) × (0 < n) × AtMost n (3 * n) (nth (now parents)) ⌝ }
     ensures { λ r. ⌜ ((t : Tree) → Parents t n (now (parents .entry)) → r ≡ scattered t) ⌝ }
 {
-    let top = climb_up(parents, n, 0);
+    let mut links = [0usize; 256];
+    link(parents, n, &mut links);
+    let top = climb_up(&links, n, 0);
     if parents[top] != 0 {
         return true;
     }
     let mut i = 0;
     while i < n {
-        if climb_up(parents, n, i) != top {
+        if climb_up(&links, n, i) != top {
             return true;
         }
         i += 1;

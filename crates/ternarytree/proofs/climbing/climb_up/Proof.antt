@@ -1,19 +1,19 @@
 -- `climb_up` meets its contract: the steps that are left lead from `at` to where n steps lead from i.
-use Prim.Native.Nat.{ℕ, _≤_, _<_}
+use Prim.Native.Nat.{_≤_, _<_}
 use native.Mathlib.Omega.{arith}
 use mathlib.Core.Path.{_≡_, refl, _∙_, sym}
 use Rattle.trees.specs.Trees.{Tree, climb}
-use Rattle.ternarytree.specs.Tables.{Parents}
+use Rattle.ternarytree.specs.Tables.{Links}
 use Rattle.ternarytree.proofs.ClimbSteps.{climb-none, climb-stop, climb-step}
 use borrow.Author.Needs.{needs}
 use Rattle.ternarytree.proofs.climbing.climb_up.Statement.{statement}
 use Rattle.ternarytree.proofs.climbing.climb_up.Tie as tie
 
 abbrev Inv-loop : tie.InvT-loop
-Inv-loop parents n i at₀ left₀ at left = (at < n) × (left ≤ n) × ((t : Tree) → Parents t n parents → climb t n i ≡ climb t left at)
+Inv-loop links n i at₀ left₀ at left = (at < n) × (left ≤ n) × ((t : Tree) → Links t n links → climb t n i ≡ climb t left at)
 
 abbrev μ-loop : tie.MeasureT-loop
-μ-loop parents n i at₀ left₀ at left = left
+μ-loop links n i at₀ left₀ at left = left
 
 loop-holds : tie.Need-loop-holds Inv-loop μ-loop
 loop-holds c = (omega arith, omega arith, λ t p. refl)
@@ -27,7 +27,7 @@ element-copy-out-up c = omega arith
 returns : tie.Need-returns Inv-loop μ-loop
 returns c =
     let a = c .before .before .before in
-    (a .loop .inv .0, λ t p. sym (a .loop .inv .2 t p ∙ climb-stop t (a .loop .left) (a .loop .at) (sym (p .ups (a .loop .at) (a .loop .inv .0)) ∙ c .if1 .taken)))
+    (a .loop .inv .0, λ t p. sym (a .loop .inv .2 t p ∙ climb-stop t (a .loop .left) (a .loop .at) _ (p .ups (a .loop .at) (a .loop .inv .0)) (c .if1 .taken)))
 
 sub-at : tie.Need-sub-at Inv-loop μ-loop
 sub-at c = search needs
@@ -43,7 +43,7 @@ loop-again c =
     let a = c .before .before .before in (
       omega (arith, a .before .pre .2 (a .loop .at) (a .loop .inv .0)),
       omega arith,
-      λ t p. a .loop .inv .2 t p ∙ climb-step t (a .loop .left) (a .loop .at) _ (sym (p .ups (a .loop .at) (a .loop .inv .0))) (c .if1 .left) (omega arith),
+      λ t p. a .loop .inv .2 t p ∙ climb-step t (a .loop .left) (a .loop .at) _ (p .ups (a .loop .at) (a .loop .inv .0)) (c .if1 .left) (omega arith),
     )
 
 returns-2 : tie.Need-returns-2 Inv-loop μ-loop

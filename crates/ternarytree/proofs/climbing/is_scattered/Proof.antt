@@ -4,21 +4,36 @@ use native.Mathlib.Omega.{arith}
 use mathlib.Core.Path.{_≡_, refl, _∙_, sym}
 use borrow.Author.Count.{below-more}
 use Rattle.trees.specs.Trees.{Tree, climb}
-use Rattle.ternarytree.specs.Tables.{nth, Parents}
-use Rattle.ternarytree.proofs.ClimbSteps.{top-has-parent, another-top, all-to-top}
+use Rattle.ternarytree.specs.Tables.{nth, Parents, Links, Ways}
+use Rattle.ternarytree.proofs.ClimbSteps.{top-has-parent, another-top, all-to-top, linked-ways, linked}
 use borrow.Author.Needs.{needs}
 use Rattle.ternarytree.proofs.climbing.is_scattered.Statement.{statement}
 use Rattle.ternarytree.proofs.climbing.is_scattered.Tie as tie
 
 abbrev Inv-loop : tie.InvT-loop
-Inv-loop parents n top i₀ i =
+Inv-loop parents n links top i₀ i =
     (i ≤ n) × (top < n) × (nth parents top ≡ 0) × ((t : Tree) → Parents t n parents → (top ≡ climb t n 0) × ((j : ℕ) → j < i → climb t n j ≡ top))
 
 abbrev μ-loop : tie.MeasureT-loop
-μ-loop parents n top i₀ i = n - i
+μ-loop parents n links top i₀ i = n - i
+
+abbrev start : tie.After-link Inv-loop μ-loop → tie.Start Inv-loop μ-loop
+start k = k .before .before
+
+abbrev linking : tie.At-loop Inv-loop μ-loop → tie.After-link Inv-loop μ-loop
+linking a = a .before .before .before .before .before
+
+ways : (k : tie.After-link Inv-loop μ-loop) → Ways (start k .args .n) (k .link .last .1 .1 .0)
+ways k = linked-ways (start k .args .n) (start k .args .parents .now) (k .link .last .1 .1 .0) (k .link .ensures) (start k .pre .2)
+
+links : (k : tie.After-link Inv-loop μ-loop) (t : Tree) → Parents t (start k .args .n) (start k .args .parents .now) → Links t (start k .args .n) (k .link .last .1 .1 .0)
+links k = linked (start k .args .n) (start k .args .parents .now) (k .link .last .1 .1 .0) (k .link .ensures)
+
+link-requires : tie.Need-link-requires Inv-loop μ-loop
+link-requires c κs = (c .before .pre .0, c .before .pre .2, refl)
 
 climb-up-requires : tie.Need-climb-up-requires Inv-loop μ-loop
-climb-up-requires c κs = search needs
+climb-up-requires c κs = let k = c .before in (start k .pre .0, start k .pre .1, ways k)
 
 mul-if1 : tie.Need-mul-if1 Inv-loop μ-loop
 mul-if1 c = search needs
@@ -28,20 +43,24 @@ element-copy-out-if1 c = search needs
 
 returns : tie.Need-returns Inv-loop μ-loop
 returns c =
-    λ t p. let r = c .before .before .climb-up in top-has-parent t _ _ p (r .result) (r .ensures .0) (r .ensures .1 t p) (c .if1 .taken)
+    let y = c .before .before in
+    let r = y .climb-up in
+    λ t p. top-has-parent t _ _ p (r .result) (r .ensures .0) (r .ensures .1 t (links (y .before .before) t p)) (c .if1 .taken)
 
 loop-holds : tie.Need-loop-holds Inv-loop μ-loop
 loop-holds c =
-    let r = c .before .before .climb-up in
-    (omega arith, r .ensures .0, c .if1 .left, λ t p. (r .ensures .1 t p, λ j h. absurd (omega arith)))
+    let y = c .before .before in
+    let r = y .climb-up in
+    (omega arith, r .ensures .0, c .if1 .left, λ t p. (r .ensures .1 t (links (y .before .before) t p), λ j h. absurd (omega arith)))
 
 climb-up-requires-2 : tie.Need-climb-up-requires-2 Inv-loop μ-loop
-climb-up-requires-2 c κs = search needs
+climb-up-requires-2 c κs = let k = linking (c .before .before) in (start k .pre .0, c .before .loop-test .taken, ways k)
 
 returns-2 : tie.Need-returns-2 Inv-loop μ-loop
 returns-2 c =
-    let a = c .before .before .before in
-    λ t p. another-top t _ _ p _ (a .loop .i) (c .before .climb-up2 .result) (omega arith) (a .loop .inv .3 t p .0) (c .before .climb-up2 .ensures .1 t p) (c .if2 .taken)
+    let a = c .before .before .before .before in
+    let r = c .before .climb-up2 in
+    λ t p. another-top t _ _ p _ (a .loop .i) (r .result) (omega arith) (a .loop .inv .3 t p .0) (r .ensures .1 t (links (linking a) t p)) (c .if2 .taken)
 
 add-i : tie.Need-add-i Inv-loop μ-loop
 add-i c = search needs
@@ -51,11 +70,12 @@ loop-less c = search needs
 
 loop-again : tie.Need-loop-again Inv-loop μ-loop
 loop-again c =
-    let a = c .before .before .before in (
+    let a = c .before .before .before .before in
+    let r = c .before .climb-up2 in (
       omega arith,
       a .loop .inv .1,
       a .loop .inv .2,
-      λ t p. (a .loop .inv .3 t p .0, below-more _ (a .loop .i) (a .loop .inv .3 t p .1) (sym (c .before .climb-up2 .ensures .1 t p) ∙ c .if2 .left)),
+      λ t p. (a .loop .inv .3 t p .0, below-more _ (a .loop .i) (a .loop .inv .3 t p .1) (sym (r .ensures .1 t (links (linking a) t p)) ∙ c .if2 .left)),
     )
 
 returns-3 : tie.Need-returns-3 Inv-loop μ-loop
@@ -69,6 +89,7 @@ is-scattered-spec =
     (tie.spec
     Inv-loop
     μ-loop
+    link-requires
     climb-up-requires
     mul-if1
     element-copy-out-if1
