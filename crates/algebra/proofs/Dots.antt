@@ -14,14 +14,14 @@ use Rattle.algebra.proofs.Digits.{bit-lt, bit-zero, bit-xor, bit-and, b
 odd-add : (x y u v : ℕ) → x % 2 ≡ u % 2 → y % 2 ≡ v % 2 → (x + y) % 2 ≡ (u + v) % 2
 odd-add x y u v h k = omega arith
 
-ones-zero : ones 0 ≡ 0
+pub ones-zero : ones 0 ≡ 0
 unfolding ones
 ones-zero = refl
 
 xor-odd : (a b : ℕ) → bitXor a b % 2 ≡ (a % 2 + b % 2) % 2
 xor-odd a b = omega (arith, bit-xor a b 0, bit-zero (bitXor a b), bit-zero a, bit-zero b)
 
-ones-xor : (a b : ℕ) → ones (bitXor a b) % 2 ≡ (ones a + ones b) % 2
+pub ones-xor : (a b : ℕ) → ones (bitXor a b) % 2 ≡ (ones a + ones b) % 2
 ones-xor =
     bin-ind (λ (n : ℕ). (b : ℕ) → ones (bitXor n b) % 2 ≡ (ones n + ones b) % 2) (λ b. omega (arith, ones-zero))
     (λ n ih b. rw (ones-step (bitXor n b), ones-step n, ones-step b, xor-shr n b 1)

@@ -4,6 +4,6 @@ pub mod Alongs
 pub mod Commons
 pub mod Clears
 pub mod Alikes
-pub mod Strays
 pub mod Terms
+pub mod Strays
 pub mod Blocks

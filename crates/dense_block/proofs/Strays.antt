@@ -1,16 +1,18 @@
--- Columns at or above a bound: the rest of one word, or a word above it. A row without them is a number below 2 ^ q.
+-- Columns at or above a bound: the rest of one word, or a word above it. A row without them is a number below 2 ^ q. Which rows of a block have none.
 use Prim.Native.Nat.{ℕ, zero, suc, _+_, _-_, _*_, _/_, _%_, _^_, _≤_, _<_}
-use native.Mathlib.Nat.{zero-add, one-mul, mul-zero, mul-le-mul-right, div-lt-iff-lt-mul}
+use native.Mathlib.Nat.{zero-add, add-mul, one-mul, mul-zero, mul-le-mul-right, lt-of-lt-of-le, div-lt-iff-lt-mul}
 use native.Mathlib.Omega.{arith}
 use mathlib.Core.Path.{_≡_, sym, ap, _∙_}
-use mathlib.Core.List.{List}
+use mathlib.Core.List.{List, []}
 use mathlib.Core.Bool.{true, false}
 use borrow.Author.Tests.{lt-ltb, le-ltb, ltb-false}
 use lib.Dec.{ltb}
-use lib.ListN.{length, getD, drop, drop-of-length-le}
-use lib.Pow.{pow-pos}
-use Rattle.dense_block.specs.Words.{value, strays}
-use Rattle.dense_block.proofs.Values.{Words, value-drop, shift-drop, shift-low}
+use lib.ListN.{length, getD, drop, length-take, drop-of-length-le}
+use lib.Pow.{pow-pos, pow-mono}
+use lib.Seq.{take-nil}
+use Rattle.dense_block.specs.Words.{value, strays, termOf}
+use Rattle.dense_block.proofs.Values.{Words, value-drop, shift-drop, shift-low, value-below}
+use Rattle.dense_block.proofs.Terms.{words-term}
 
 -- what is left above q columns
 value-above : (ws : List ℕ) (q : ℕ) → Words ws
@@ -64,3 +66,18 @@ unfolding strays
 no-strays ws q h =
     let low : value ws / 2 ^ q < 1 = div-lt-iff-lt-mul (pow-pos q) .1 (omega arith) in
     le-ltb 0 (value ws / 2 ^ q) (omega arith)
+
+-- ---- the rows of a block
+
+-- rows of few words end below column q
+pub narrow : (w : ℕ) (ws : List ℕ) (k q : ℕ) → Words ws → w ≤ q / 64 → strays (termOf w ws k) q ≡ false
+narrow w ws k q h l =
+    let t = termOf w ws k in
+    no-strays t q (lt-of-lt-of-le (value-below t (words-term w ws k h)) (pow-mono (omega (arith, length-take w (drop (k * w) ws)))))
+
+-- rows past the end have no words
+pub beyond : (w : ℕ) (ws : List ℕ) (k j q : ℕ) → length ws < k * w + w → k < j → strays (termOf w ws j) q ≡ false
+beyond w ws k j q h l =
+    let up : k + 1 ≤ j = omega arith in
+    let far : length ws ≤ j * w = omega (arith, mul-le-mul-right w up, add-mul k 1 w, one-mul w) in
+    rw (drop-of-length-le ws far, take-nil w) (no-strays [] q (pow-pos q))

@@ -51,6 +51,18 @@ term-part m w ws k h e =
     least-take n l (yes g) = rw (min-eq-left g)
     least-take n l (no g) = let f : length l ≤ n = omega (arith, g) in rw (min-eq-right f, take-length l) (sym (take-all n l f))
 
+-- a row that starts at a: the words up to the end where fewer than w are left, and else w words
+pub term-rest : (w : ℕ) (ws : List ℕ) (k a : ℕ) → a ≡ k * w → length ws - a < w → take (length ws - a) (drop a ws) ≡ termOf w ws k
+term-rest w ws k a e h =
+    let d : length (drop a ws) ≡ length ws - a = length-drop a ws in
+    ap (λ (n : ℕ). take n (drop a ws)) (sym d)
+    ∙ take-length (drop a ws)
+    ∙ sym (take-all w (drop a ws) (omega arith))
+    ∙ ap (λ (n : ℕ). take w (drop n ws)) e
+
+pub term-whole : (w : ℕ) (ws : List ℕ) (k a : ℕ) → a ≡ k * w → take (a + w - a) (drop a ws) ≡ termOf w ws k
+term-whole w ws k a e = let d : a + w - a ≡ w = omega arith in ap (λ (n : ℕ). take n (drop a ws)) d ∙ ap (λ (n : ℕ). take w (drop n ws)) e
+
 -- ---- one row of a block written
 
 module _ (w : ℕ) (ws : List ℕ) (k : ℕ) (ys : List ℕ) (long : length ys ≡ w) (inside : k * w + w ≤ length ws) where

@@ -5,6 +5,7 @@ use mathlib.Core.Bool.{Bool, true, false, _&&_}
 use lib.ListN.{getD, set, take, drop}
 use lib.Bits.{bitXor}
 use lib.Dec.{eqb, ltb}
+use Rattle.refusal.specs.Search.{someBelow}
 use Rattle.algebra.specs.Rows.{bit, dot}
 
 -- the number of a row: column j, bit j mod 64 of word j / 64, is its binary digit j
@@ -77,6 +78,10 @@ strays ws q = ltb 0 (value ws / 2 ^ q)
 -- row `term` of a block of rows of `width` words
 abbrev pub termOf : ℕ → List ℕ → ℕ → List ℕ
 termOf width ws term = take width (drop (term * width) ws)
+
+-- one of the first n rows of a block has a column at or above q set
+unfoldable pub straysIn : ℕ → List ℕ → ℕ → ℕ → Bool
+straysIn width ws n q = someBelow n (λ k. strays (termOf width ws k) q)
 
 -- the block with that row made ys
 abbrev pub withTerm : ℕ → List ℕ → ℕ → List ℕ → List ℕ

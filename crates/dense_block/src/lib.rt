@@ -6,13 +6,13 @@
 //   xor_assign                      a row added to another, word by word
 //   parity_and, and_count_ones      the common ones of two rows: their parity, their number
 //   clear, copy, same, stray        words made zero, copied and compared; a bit past the last column
-//   get_term                        a row of a block of rows
+//   get_term, stray_block           a row of a block of rows; a bit past the last column in one of them
 
 ghost use mathlib.Core.Path.{_≡_};
 ghost use Prim.Native.Nat.{_%_, _^_, min};
 ghost use lib.ListN.{getD};
 ghost use Rattle.algebra.specs.Rows.{common};
-ghost use Rattle.dense_block.specs.Words.{value, wordsFor, column, put, xors, odd, zeroed, copied, alike, strays, termOf};
+ghost use Rattle.dense_block.specs.Words.{value, wordsFor, column, put, xors, odd, zeroed, copied, alike, strays, termOf, straysIn};
 
 // How many words a row of q columns takes.
 pub fn words_for(q: usize) -> usize
@@ -71,18 +71,18 @@ pub fn xor_assign(dst: &mut [u64], src: &[u64])
     }
 }
 
-// Whether the number of common ones is odd.
+// Whether the number of common ones is odd. The xor of words has the parity of all their ones together, so they are counted once.
 pub fn parity_and(a: &[u64], b: &[u64]) -> bool
     ensures { λ r. ⌜ r ≡ odd (now (a .entry)) (now (b .entry)) ⌝ }
 {
     let n = least(a.len(), b.len());
-    let mut p: u32 = 0;
+    let mut sum: u64 = 0;
     let mut at = 0;
     while at < n {
-        p = (p + u64::count_ones(a[at] & b[at])) % 2;
+        sum = sum ^ (a[at] & b[at]);
         at += 1;
     }
-    p == 1
+    u64::count_ones(sum) % 2 == 1
 }
 
 // The number of common ones, modulo 2^32: of an X part and a Z part, the number of Y columns.
@@ -172,4 +172,28 @@ pub fn get_term(x: &[u64], width: usize, term: usize) -> &[u64]
     let a = term * width;
     let e = a + least(width, n - a);
     &x[a..e]
+}
+
+// Whether one of the first `count` rows of a block of rows of `width` words has a column at or above q set. Rows that end below column q have none, and are not looked at.
+pub fn stray_block(x: &[u64], width: usize, count: usize, q: usize) -> bool
+    ensures { λ r. ⌜ r ≡ straysIn width (now (x .entry)) count q ⌝ }
+{
+    if width <= q / 64 {
+        return false;
+    }
+    let n = x.len();
+    let mut a = 0;
+    let mut k = 0;
+    while k < count {
+        if n - a < width {
+            return stray(&x[a..n], q);
+        }
+        let e = a + width;
+        if stray(&x[a..e], q) {
+            return true;
+        }
+        a = e;
+        k += 1;
+    }
+    false
 }

@@ -1,17 +1,18 @@
 -- Rows that lie in their slices, and what the tests that every call shares leave known.
 use Prim.Native.Nat.{ℕ, zero, suc, _+_, _*_, _^_, _≤_, _<_}
 use native.Mathlib.Omega.{arith}
-use mathlib.Core.Path.{_≡_, refl, sym, _∙_}
+use mathlib.Core.Path.{_≡_, refl, sym, ap, _∙_}
 use mathlib.Core.List.{List, [], _∷_}
 use mathlib.Core.Bool.{Bool, true, false, _||_}
 use borrow.Author.Tests.{eqb-false, ltb-false, le-ltb}
 use lib.Dec.{eqb, ltb}
 use lib.ListN.{length, getD, take}
+use Rattle.refusal.specs.Search.{someBelow}
 use Rattle.refusal.specs.Table.{Lent, short}
 use Rattle.refusal.proofs.Rooms.{Hold, hold}
 use Rattle.refusal.proofs.Bools.{or-left, or-right}
-use Rattle.refusal.proofs.Searches.{none-at}
-use Rattle.dense_block.specs.Words.{value, wordsFor, termOf, strays}
+use Rattle.refusal.proofs.Searches.{none-at, some-or}
+use Rattle.dense_block.specs.Words.{value, wordsFor, termOf, strays, straysIn}
 use Rattle.dense_block.proofs.Terms.{row-within}
 use Rattle.dense_block.proofs.Strays.{below-of}
 use Rattle.majorana.specs.Sets.{badSize, setLent, manyOrShort, badRowAt, badRows, manyOrBad, Fits}
@@ -64,6 +65,13 @@ zeros (suc (suc (suc (suc k)))) = rest k
 pub few-bad : (n q w : ℕ) (xs zs ps : List ℕ) → n ≤ 256 → manyOrBad n q w xs zs ps ≡ badRows n q w xs zs ps
 unfolding manyOrBad
 few-bad n q w xs zs ps a = rw (le-ltb 256 n a)
+
+-- phases, X parts and Z parts can be tested one after another
+pub bad-parts : (n q w : ℕ) (xs zs ps : List ℕ) → badRows n q w xs zs ps ≡ (someBelow (2 * n) (λ k. ltb 3 (getD ps k 0)) || (straysIn w xs (2 * n) q || straysIn w zs (2 * n) q))
+unfolding badRows badRowAt straysIn
+bad-parts n q w xs zs ps =
+    some-or (2 * n) (λ k. ltb 3 (getD ps k 0)) (λ k. strays (termOf w xs k) q || strays (termOf w zs k) q)
+    ∙ ap (λ (b : Bool). someBelow (2 * n) (λ k. ltb 3 (getD ps k 0)) || b) (some-or (2 * n) (λ k. strays (termOf w xs k) q) (λ k. strays (termOf w zs k) q))
 
 module _ (n q w : ℕ) (xs zs ps : List ℕ) (h : badRows n q w xs zs ps ≡ false) (k : ℕ) (low : k < 2 * n) where
   good : badRowAt q w xs zs ps k ≡ false

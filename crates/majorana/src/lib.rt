@@ -78,14 +78,14 @@ pub fn bad_rows(modes: usize, qubits: usize, w: usize, x: &[u64], z: &[u64], pha
     if 256 < modes {
         return true;
     }
-    let mut k = 2 * modes;
-    while 0 < k {
-        k -= 1;
-        if rows::bad_row_at(qubits, w, x, z, phases, k) {
-            return true;
-        }
+    let count = 2 * modes;
+    if rows::bad_phase(phases, count) {
+        return true;
     }
-    false
+    if dense_block::stray_block(x, w, count, qubits) {
+        return true;
+    }
+    dense_block::stray_block(z, w, count, qubits)
 }
 
 // Whether the vacuum rule holds at `vacuum`.

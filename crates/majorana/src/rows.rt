@@ -3,11 +3,13 @@
 ghost use mathlib.Core.Path.{_≡_};
 ghost use mathlib.Core.List.{[], _∷_};
 ghost use mathlib.Core.Bool.{_||_};
-ghost use Prim.Native.Nat.{_+_, _*_, _≤_, _<_};
+ghost use Prim.Native.Nat.{_+_, _*_, _≤_, _<_, min, max};
+ghost use lib.Dec.{ltb};
 ghost use lib.ListN.{length, getD};
 ghost use Rattle.refusal.specs.Table.{_of_, short};
+ghost use Rattle.refusal.specs.Search.{someBelow};
 ghost use Rattle.dense_block.specs.Words.{termOf, strays};
-ghost use Rattle.majorana.specs.Sets.{setLent, badRowAt, badRows, Fits};
+ghost use Rattle.majorana.specs.Sets.{setLent, badRows, Fits};
 
 // Whether slices are too short for the rows and one thing more, of length `h1`, of which `n1` are needed; and for two and three more.
 pub fn short_one(modes: usize, w: usize, x: usize, z: usize, p: usize, n1: usize, h1: usize) -> bool
@@ -81,24 +83,30 @@ pub fn row(w: usize, k: usize, x: &[u64]) -> &[u64]
     &x[a..e]
 }
 
-// The phase of row k; 0 past the end.
-fn phase_at(phases: &[u8], k: usize) -> u8
-    ensures { λ r. ⌜ r ≡ getD (now (phases .entry)) k 0 ⌝ }
+fn least(a: usize, b: usize) -> usize
+    ensures { λ r. ⌜ r ≡ min a b ⌝ }
 {
-    if k < phases.len() { phases[k] } else { 0 }
+    if a < b { a } else { b }
 }
 
-// Whether row k has a phase above 3, or a bit past the last column.
-pub fn bad_row_at(qubits: usize, w: usize, x: &[u64], z: &[u64], phases: &[u8], k: usize) -> bool
-    ensures { λ r. ⌜ r ≡ badRowAt qubits w (now (x .entry)) (now (z .entry)) (now (phases .entry)) k ⌝ }
+fn larger(a: u8, b: u8) -> u8
+    ensures { λ r. ⌜ r ≡ max a b ⌝ }
 {
-    if 3 < phase_at(phases, k) {
-        return true;
+    if a < b { b } else { a }
+}
+
+// Whether one of the first n phases is above 3. None is left out after the first, so that a processor can look at many at a time.
+pub fn bad_phase(phases: &[u8], n: usize) -> bool
+    ensures { λ r. ⌜ r ≡ someBelow n (λ k. ltb 3 (getD (now (phases .entry)) k 0)) ⌝ }
+{
+    let m = least(n, phases.len());
+    let mut top = 0u8;
+    let mut i = 0;
+    while i < m {
+        top = larger(top, phases[i]);
+        i += 1;
     }
-    if dense_block::stray(dense_block::get_term(x, w, k), qubits) {
-        return true;
-    }
-    dense_block::stray(dense_block::get_term(z, w, k), qubits)
+    3 < top
 }
 
 // Whether one of the rows is bad, or a string has a bit at or above its column q1; and with two strings.

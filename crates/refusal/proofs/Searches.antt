@@ -1,6 +1,8 @@
 -- The searches of specs/Search.antt, as "there is" and "for all", and step by step as loops use them. By induction on the bound.
-use Prim.Native.Nat.{ℕ, zero, suc, _-_, _≤_, _<_}
+use Prim.Native.Nat.{ℕ, zero, suc, _+_, _-_, _≤_, _<_}
 use native.Mathlib.Nat.{eq-or-lt-of-le, le-of-suc-le-suc}
+use native.Mathlib.Numerals.{add-one}
+use native.Mathlib.Decide.{decLt}
 use native.Mathlib.Omega.{arith}
 use mathlib.Core.Path.{_≡_, refl, sym, ap, _∙_}
 use mathlib.Core.Logic.{_⊎_, inl, inr}
@@ -58,6 +60,51 @@ pub some-same : (n : ℕ) (f g : ℕ → Bool) → ((k : ℕ) → k < n → f k 
 unfolding someBelow
 some-same zero f g h = refl
 some-same (suc n) f g h = rw (h n (omega arith), some-same n f g (λ k l. h k (omega arith)))
+
+-- two tests at once
+pub some-or : (n : ℕ) (f g : ℕ → Bool) → someBelow n (λ k. f k || g k) ≡ (someBelow n f || someBelow n g)
+unfolding someBelow
+some-or zero f g = refl
+some-or (suc n) f g = rw (some-or n f g) (swap (f n) (g n) (someBelow n f) (someBelow n g))
+  where
+    swap : (a b c d : Bool) → ((a || b) || (c || d)) ≡ ((a || c) || (b || d))
+    swap true b c d = refl
+    swap false true true d = refl
+    swap false true false d = refl
+    swap false false c d = refl
+
+-- a loop that counts up
+pub some-next : (k : ℕ) (test : ℕ → Bool) → someBelow (k + 1) test ≡ (test k || someBelow k test)
+unfolding someBelow
+some-next k test = rw (add-one k)
+
+pub none-next : (k : ℕ) (test : ℕ → Bool) → someBelow k test ≡ false → test k ≡ false → someBelow (k + 1) test ≡ false
+none-next k test h e = rw (some-next k test, e, h)
+
+-- no number from k on passes
+pub some-past : (n k : ℕ) (test : ℕ → Bool) → k ≤ n → ((j : ℕ) → k ≤ j → test j ≡ false) → someBelow n test ≡ someBelow k test
+some-past n k test l above = go (someBelow k test) refl
+  where
+    side : (j : ℕ) → someBelow k test ≡ false → Dec (j < k) → test j ≡ false
+    side j e (yes p) = none-at k test e j p
+    side j e (no p) = above j (omega (arith, p))
+
+    go : (b : Bool) → someBelow k test ≡ b → someBelow n test ≡ b
+    go true e = let s = some-at k test e in some-of n test (s .0) (omega (arith, s .1)) (s .2)
+    go false e = none-of n test (λ j h. side j e (decLt j k))
+
+-- no number but k can pass
+pub some-only : (n : ℕ) (test : ℕ → Bool) (k : ℕ) → k < n → ((j : ℕ) → j < k → test j ≡ false) → ((j : ℕ) → k < j → test j ≡ false) → someBelow n test ≡ test k
+some-only n test k l below above = go (test k) refl
+  where
+    side : (j : ℕ) → test k ≡ false → Dec (j < k) → Dec (k < j) → test j ≡ false
+    side j e (yes p) q = below j p
+    side j e (no p) (yes q) = above j q
+    side j e (no p) (no q) = let s : j ≡ k = omega (arith, p, q) in ap test s ∙ e
+
+    go : (b : Bool) → test k ≡ b → someBelow n test ≡ b
+    go true e = some-of n test k l e
+    go false e = none-of n test (λ j h. side j e (decLt j k) (decLt k j))
 
 -- a loop that counts down
 some-step : (k : ℕ) (test : ℕ → Bool) → 0 < k → someBelow k test ≡ (test (k - 1) || someBelow (k - 1) test)

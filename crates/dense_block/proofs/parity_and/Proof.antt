@@ -1,12 +1,13 @@
--- `dense_block::parity_and` meets its contract: what is counted and what is left have the parity of the whole.
-use Prim.Native.Nat.{ℕ, _+_, _-_, _%_, _≤_, _<_}
+-- `dense_block::parity_and` meets its contract: the ones of the xor so far and those that are left have the parity of the whole.
+use Prim.Native.Nat.{ℕ, _+_, _-_, _%_, _≤_}
 use mathlib.Core.Path.{_≡_, ap}
 use native.Mathlib.Omega.{arith}
 use lib.Dec.{eqb}
 use lib.ListN.{getD, drop}
-use lib.Bits.{bitAnd, and-le-l}
-use lib.Count.{ones-le}
+use lib.Bits.{bitAnd}
+use lib.Count.{ones}
 use Rattle.algebra.specs.Rows.{common, dot}
+use Rattle.algebra.proofs.Dots.{ones-zero, ones-xor}
 use Rattle.dense_block.specs.Words.{value, odd}
 use Rattle.dense_block.proofs.Commons.{common-step, common-end}
 use borrow.Author.Needs.{needs}
@@ -14,36 +15,28 @@ use Rattle.dense_block.proofs.parity_and.Statement.{statement}
 use Rattle.dense_block.proofs.parity_and.Tie as tie
 
 abbrev Inv-loop : tie.InvT-loop
-Inv-loop a b n p₀ at₀ p i = (i ≤ n) × (p < 2) × ((p + common (value (drop i a)) (value (drop i b))) % 2 ≡ common (value a) (value b) % 2)
+Inv-loop a b n sum₀ at₀ sum i = (i ≤ n) × ((ones sum + common (value (drop i a)) (value (drop i b))) % 2 ≡ common (value a) (value b) % 2)
 
 abbrev μ-loop : tie.MeasureT-loop
-μ-loop a b n p₀ at₀ p i = n - i
+μ-loop a b n sum₀ at₀ sum i = n - i
 
 least-requires : tie.Need-least-requires Inv-loop μ-loop
 least-requires c κs = search needs
 
 loop-holds : tie.Need-loop-holds Inv-loop μ-loop
-loop-holds c = search needs
+loop-holds c = (omega arith, omega (arith, ones-zero))
 
-mul-p : tie.Need-mul-p Inv-loop μ-loop
-mul-p c = search needs
+mul-sum : tie.Need-mul-sum Inv-loop μ-loop
+mul-sum c = search needs
 
-shared-slice-read-p : tie.Need-shared-slice-read-p Inv-loop μ-loop
-shared-slice-read-p c = search needs
+shared-slice-read-sum : tie.Need-shared-slice-read-sum Inv-loop μ-loop
+shared-slice-read-sum c = search needs
 
-mul-p-2 : tie.Need-mul-p-2 Inv-loop μ-loop
-mul-p-2 c = search needs
+mul-sum-2 : tie.Need-mul-sum-2 Inv-loop μ-loop
+mul-sum-2 c = search needs
 
-shared-slice-read-p-2 : tie.Need-shared-slice-read-p-2 Inv-loop μ-loop
-shared-slice-read-p-2 c = search needs
-
-add-p : tie.Need-add-p Inv-loop μ-loop
-add-p c =
-    let i = c .before .before .before .loop .at in
-    let a = c .before .before .before .before .before .before .before .args in
-    let h = and-le-l (getD (a .a .now) i 0) (getD (a .b .now) i 0) in
-    let k = c .before .shared-slice-known3 .given i in
-    omega (arith, ones-le 64 (bitAnd (getD (a .a .now) i 0) (getD (a .b .now) i 0)) (omega arith))
+shared-slice-read-sum-2 : tie.Need-shared-slice-read-sum-2 Inv-loop μ-loop
+shared-slice-read-sum-2 c = search needs
 
 add-at : tie.Need-add-at Inv-loop μ-loop
 add-at c = search needs
@@ -56,14 +49,15 @@ loop-again c =
     let l = c .before .before .before .loop in
     let s = c .before .before .before .before .before in
     let a = s .before .before .args in
-    omega (arith, common-step (a .a .now) (a .b .now) (l .at) (λ i. s .before .shared-slice-known .given i .fits) (λ i. s .shared-slice-known2 .given i .fits))
+    let x = bitAnd (getD (a .a .now) (l .at) 0) (getD (a .b .now) (l .at) 0) in
+    omega (arith, ones-xor (l .sum) x, common-step (a .a .now) (a .b .now) (l .at) (λ i. s .before .shared-slice-known .given i .fits) (λ i. s .shared-slice-known2 .given i .fits))
 
 returns : tie.Need-returns Inv-loop μ-loop
 unfolding odd dot
 returns c =
     let l = c .before .loop in
     let a = c .before .before .before .before .before .args in
-    let e : l .p ≡ common (value (a .a .now)) (value (a .b .now)) % 2 = omega (arith, common-end (a .a .now) (a .b .now) (l .at) (omega arith)) in
+    let e : ones (l .sum) % 2 ≡ common (value (a .a .now)) (value (a .b .now)) % 2 = omega (arith, common-end (a .a .now) (a .b .now) (l .at) (omega arith)) in
     ap (λ (x : ℕ). eqb x 1) e
 
 pub parity-and-spec : {M : Type 1} → statement M
@@ -74,11 +68,10 @@ parity-and-spec =
     μ-loop
     least-requires
     loop-holds
-    mul-p
-    shared-slice-read-p
-    mul-p-2
-    shared-slice-read-p-2
-    add-p
+    mul-sum
+    shared-slice-read-sum
+    mul-sum-2
+    shared-slice-read-sum-2
     add-at
     loop-less
     loop-again

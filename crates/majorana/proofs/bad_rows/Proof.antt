@@ -1,67 +1,74 @@
--- `majorana::bad_rows` meets its contract: the rows from the highest, and what is left decides.
+-- `majorana::bad_rows` meets its contract: the phases, the X parts and the Z parts, one after another.
+use Prim.Native.Nat.{_*_}
 use mathlib.Core.Path.{_≡_, sym, _∙_}
-use mathlib.Core.Bool.{Bool}
-use native.Mathlib.Omega.{arith}
-use Prim.Native.Nat.{ℕ}
+use mathlib.Core.Bool.{Bool, true, false, _||_}
 use borrow.Author.Tests.{lt-ltb}
+use lib.Dec.{ltb}
+use lib.ListN.{getD}
 use Rattle.refusal.specs.Search.{someBelow}
-use Rattle.refusal.proofs.Searches.{some-here, some-below, some-none}
-use Rattle.majorana.specs.Sets.{badRowAt, badRows, manyOrBad}
-use Rattle.majorana.proofs.SetLaws.{few-bad}
+use Rattle.dense_block.specs.Words.{straysIn}
+use Rattle.majorana.specs.Sets.{manyOrBad}
+use Rattle.majorana.proofs.SetLaws.{few-bad, bad-parts}
+use borrow.Author.Needs.{needs}
 use borrow.Author.Needs.{needs}
 use Rattle.majorana.proofs.bad_rows.Statement.{statement}
 use Rattle.majorana.proofs.bad_rows.Tie as tie
 
-abbrev Inv-loop : tie.InvT-loop
-Inv-loop modes qubits w x z phases k₀ k = manyOrBad modes qubits w x z phases ≡ someBelow k (badRowAt qubits w x z phases)
+abbrev phasesBad : tie.Start → Bool
+phasesBad s = let a = s .args in someBelow (2 * (a .modes)) (λ k. ltb 3 (getD (a .phases .now) k 0))
 
-abbrev μ-loop : tie.MeasureT-loop
-μ-loop modes qubits w x z phases k₀ k = k
+abbrev xBad : tie.Start → Bool
+xBad s = let a = s .args in straysIn (a .w) (a .x .now) (2 * (a .modes)) (a .qubits)
 
-abbrev test : tie.Start Inv-loop μ-loop → ℕ → Bool
-test c = let a = c .args in badRowAt (a .qubits) (a .w) (a .x .now) (a .z .now) (a .phases .now)
+abbrev zBad : tie.Start → Bool
+zBad s = let a = s .args in straysIn (a .w) (a .z .now) (2 * (a .modes)) (a .qubits)
 
-returns : tie.Need-returns Inv-loop μ-loop
+whole : (c : tie.Else1) → let a = c .before .before .before .before .args in manyOrBad (a .modes) (a .qubits) (a .w) (a .x .now) (a .z .now) (a .phases .now) ≡ (phasesBad (c .before .before .before .before) || (xBad (c .before .before .before .before) || zBad (c .before .before .before .before)))
+whole c = let a = c .before .before .before .before .args in few-bad _ _ _ _ _ _ (c .if1 .left) ∙ bad-parts (a .modes) (a .qubits) (a .w) (a .x .now) (a .z .now) (a .phases .now)
+
+tested : {p x z : Bool} → p ≡ false → x ≡ false → (p || (x || z)) ≡ z
+tested h k = rw (h, k)
+
+found-x : {p x : Bool} (z : Bool) → p ≡ false → x ≡ true → (p || (x || z)) ≡ true
+found-x z h k = rw (h, k)
+
+found-p : {p : Bool} (r : Bool) → p ≡ true → (p || r) ≡ true
+found-p r h = rw h
+
+returns : tie.Need-returns
 unfolding manyOrBad
 returns c = simp (lt-ltb _ _ (c .if1 .taken))
 
-mul-k : tie.Need-mul-k Inv-loop μ-loop
-mul-k c = search needs
+mul-count : tie.Need-mul-count
+mul-count c = search needs
 
-loop-holds : tie.Need-loop-holds Inv-loop μ-loop
-unfolding badRows
-loop-holds c = few-bad _ _ _ _ _ _ (c .if1 .left)
+bad-phase-requires : tie.Need-bad-phase-requires
+bad-phase-requires c κs = search needs
 
-sub-k : tie.Need-sub-k Inv-loop μ-loop
-sub-k c = search needs
+returns-2 : tie.Need-returns-2
+returns-2 c = sym (whole (c .before .before) ∙ found-p (xBad (c .before .before .before .before .before .before) || zBad (c .before .before .before .before .before .before)) (sym (c .before .bad-phase .ensures) ∙ c .if2 .taken))
 
-bad-row-at-requires : tie.Need-bad-row-at-requires Inv-loop μ-loop
-bad-row-at-requires c κs = search needs
+stray-block-requires : tie.Need-stray-block-requires
+stray-block-requires c κs = search needs
 
-returns-2 : tie.Need-returns-2 Inv-loop μ-loop
-returns-2 c = let l = c .before .before .before .loop in sym (l .inv ∙ some-here (l .k) (test (c .before .before .before .before .before .before .before .before)) (omega arith) (sym (c .before .bad-row-at .ensures) ∙ c .if2 .taken))
+returns-3 : tie.Need-returns-3
+returns-3 c = sym (whole (c .before .before .before .before) ∙ found-x (zBad (c .before .before .before .before .before .before .before .before)) (sym (c .before .before .before .bad-phase .ensures) ∙ c .before .before .if2 .left) (sym (c .before .stray-block .ensures) ∙ c .if3 .taken))
 
-loop-less : tie.Need-loop-less Inv-loop μ-loop
-loop-less c = search needs
+stray-block-requires-2 : tie.Need-stray-block-requires-2
+stray-block-requires-2 c κs = search needs
 
-loop-again : tie.Need-loop-again Inv-loop μ-loop
-loop-again c = let l = c .before .before .before .loop in l .inv ∙ some-below (l .k) (test (c .before .before .before .before .before .before .before .before)) (omega arith) (sym (c .before .bad-row-at .ensures) ∙ c .if2 .left)
-
-returns-3 : tie.Need-returns-3 Inv-loop μ-loop
-returns-3 c = let l = c .before .loop in sym (l .inv ∙ some-none (l .k) (test (c .before .before .before .before .before .before)) (omega arith))
+returns-4 : tie.Need-returns-4
+returns-4 c = c .stray-block2 .ensures ∙ sym (whole (c .before .before .before .before .before) ∙ tested (sym (c .before .before .before .before .bad-phase .ensures) ∙ c .before .before .before .if2 .left) (sym (c .before .before .stray-block .ensures) ∙ c .before .if3 .left))
 
 pub bad-rows-spec : {M : Type 1} → statement M
 bad-rows-spec =
     tie.close
     (tie.spec
-    Inv-loop
-    μ-loop
     returns
-    mul-k
-    loop-holds
-    sub-k
-    bad-row-at-requires
+    mul-count
+    bad-phase-requires
     returns-2
-    loop-less
-    loop-again
-    returns-3)
+    stray-block-requires
+    returns-3
+    stray-block-requires-2
+    returns-4)
