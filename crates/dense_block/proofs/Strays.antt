@@ -4,15 +4,16 @@ use native.Mathlib.Nat.{zero-add, add-mul, one-mul, mul-zero, mul-le-mul-right, 
 use native.Mathlib.Omega.{arith}
 use mathlib.Core.Path.{_≡_, sym, ap, _∙_}
 use mathlib.Core.List.{List, []}
-use mathlib.Core.Bool.{true, false}
+use mathlib.Core.Bool.{Bool, true, false, _||_}
 use borrow.Author.Tests.{lt-ltb, le-ltb, ltb-false}
 use lib.Dec.{ltb}
-use lib.ListN.{length, getD, drop, length-take, drop-of-length-le}
+use lib.ListN.{length, getD, drop, length-take, length-drop, drop-of-length-le}
+use lib.Bits.{bitOr, and-le-l, or-zero-r, or-add-and, or-shr}
 use lib.Pow.{pow-pos, pow-mono}
 use lib.Seq.{take-nil}
 use Rattle.dense_block.specs.Words.{value, strays, termOf}
 use Rattle.dense_block.proofs.Values.{Words, value-drop, shift-drop, shift-low, value-below}
-use Rattle.dense_block.proofs.Terms.{words-term}
+use Rattle.dense_block.proofs.Terms.{words-term, length-term, term-at}
 
 -- what is left above q columns
 value-above : (ws : List ℕ) (q : ℕ) → Words ws
@@ -70,10 +71,11 @@ no-strays ws q h =
 -- ---- the rows of a block
 
 -- rows of few words end below column q
+pub ends-below : (ws : List ℕ) (q : ℕ) → Words ws → length ws ≤ q / 64 → strays ws q ≡ false
+ends-below ws q h l = no-strays ws q (lt-of-lt-of-le (value-below ws h) (pow-mono (omega arith)))
+
 pub narrow : (w : ℕ) (ws : List ℕ) (k q : ℕ) → Words ws → w ≤ q / 64 → strays (termOf w ws k) q ≡ false
-narrow w ws k q h l =
-    let t = termOf w ws k in
-    no-strays t q (lt-of-lt-of-le (value-below t (words-term w ws k h)) (pow-mono (omega (arith, length-take w (drop (k * w) ws)))))
+narrow w ws k q h l = ends-below (termOf w ws k) q (words-term w ws k h) (omega (arith, length-take w (drop (k * w) ws)))
 
 -- rows past the end have no words
 pub beyond : (w : ℕ) (ws : List ℕ) (k j q : ℕ) → length ws < k * w + w → k < j → strays (termOf w ws j) q ≡ false
@@ -81,3 +83,23 @@ beyond w ws k j q h l =
     let up : k + 1 ≤ j = omega arith in
     let far : length ws ≤ j * w = omega (arith, mul-le-mul-right w up, add-mul k 1 w, one-mul w) in
     rw (drop-of-length-le ws far, take-nil w) (no-strays [] q (pow-pos q))
+
+-- rows that end in the word of column q: that word decides, and a row that is cut off ends before it
+module _ (w : ℕ) (ws : List ℕ) (q : ℕ) (h : Words ws) (e : w ≡ q / 64 + 1) where
+  pub last-word : (k : ℕ) → k * w + w ≤ length ws → strays (termOf w ws k) q ≡ ltb 0 (getD ws (k * w + q / 64) 0 / 2 ^ (q % 64))
+  unfolding strays
+  last-word k l =
+      let t = termOf w ws k in
+      let long : length t ≤ q / 64 + 1 = omega (arith, length-term w ws k l) in
+      ap (ltb 0) (value-above t q (words-term w ws k h) ∙ rw (drop-of-length-le t long) (omega arith) ∙ ap (λ (x : ℕ). x / 2 ^ (q % 64)) (term-at w ws k (q / 64) (omega arith)))
+
+  pub cut-off : (k : ℕ) → length ws < k * w + w → strays (termOf w ws k) q ≡ false
+  cut-off k l = ends-below (termOf w ws k) q (words-term w ws k h) (omega (arith, length-take w (drop (k * w) ws), length-drop (k * w) ws))
+
+-- words in one: what is at s or above is in one of them
+pub or-pos : (a b s : ℕ) → ltb 0 (bitOr a b / 2 ^ s) ≡ (ltb 0 (b / 2 ^ s) || ltb 0 (a / 2 ^ s))
+or-pos a b s = ap (ltb 0) (or-shr a b s) ∙ go (a / 2 ^ s) (b / 2 ^ s)
+  where
+    go : (a b : ℕ) → ltb 0 (bitOr a b) ≡ (ltb 0 b || ltb 0 a)
+    go a zero = ap (ltb 0) (or-zero-r a)
+    go a (suc b) = lt-ltb 0 (bitOr a (suc b)) (omega (arith, or-add-and a (suc b), and-le-l a (suc b))) ∙ sym (ap (λ (c : Bool). c || ltb 0 a) (lt-ltb 0 (suc b) (omega arith)))

@@ -5,8 +5,8 @@ use native.Mathlib.Decide.{decLe}
 use native.Mathlib.Omega.{arith}
 use mathlib.Core.Path.{_≡_, sym, ap, _∙_}
 use mathlib.Core.List.{List, [], _++_}
-use lib.ListN.{length, take, drop, length-append, length-take, length-drop, take-append-drop, drop-of-length-le}
-use lib.Seq.{length-take-le, take-nil, take-all, take-length, take-at, take-append-le, drop-length, drop-at, drop-append-le, drop-append-add, drop-drop}
+use lib.ListN.{length, getD, take, drop, length-append, length-take, length-drop, take-append-drop, drop-of-length-le}
+use lib.Seq.{getD-take, getD-drop, length-take-le, take-nil, take-all, take-length, take-at, take-append-le, drop-length, drop-at, drop-append-le, drop-append-add, drop-drop}
 use Rattle.dense_block.specs.Words.{termOf, withTerm}
 use Rattle.dense_block.proofs.Values.{Words, words-take, words-drop}
 
@@ -21,6 +21,10 @@ words-term w ws k h = words-take w (drop (k * w) ws) (words-drop (k * w) ws h)
 
 pub length-term : (w : ℕ) (ws : List ℕ) (k : ℕ) → k * w + w ≤ length ws → length (termOf w ws k) ≡ w
 length-term w ws k h = rw (length-take, length-drop) (min-eq-left (omega arith))
+
+-- its words are words of the block
+pub term-at : (w : ℕ) (ws : List ℕ) (k i : ℕ) → i < w → getD (termOf w ws k) i 0 ≡ getD ws (k * w + i) 0
+term-at w ws k i h = getD-take w (drop (k * w) ws) i 0 h ∙ getD-drop (k * w) ws i 0
 
 -- ---- a row that a block holds in part, or not at all
 

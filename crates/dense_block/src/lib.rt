@@ -9,8 +9,10 @@
 //   get_term, stray_block           a row of a block of rows; a bit past the last column in one of them
 
 ghost use mathlib.Core.Path.{_≡_};
-ghost use Prim.Native.Nat.{_%_, _^_, min};
-ghost use lib.ListN.{getD};
+ghost use Prim.Native.Nat.{ℕ, _+_, _*_, _/_, _%_, _^_, _<_, _≤_, min};
+ghost use lib.Dec.{ltb};
+ghost use lib.ListN.{length, getD};
+ghost use Rattle.refusal.specs.Search.{someBelow};
 ghost use Rattle.algebra.specs.Rows.{common};
 ghost use Rattle.dense_block.specs.Words.{value, wordsFor, column, put, xors, odd, zeroed, copied, alike, strays, termOf, straysIn};
 
@@ -174,13 +176,24 @@ pub fn get_term(x: &[u64], width: usize, term: usize) -> &[u64]
     &x[a..e]
 }
 
-// Whether one of the first `count` rows of a block of rows of `width` words has a column at or above q set. Rows that end below column q have none, and are not looked at.
-pub fn stray_block(x: &[u64], width: usize, count: usize, q: usize) -> bool
+// The words `at` of the first `count` rows of a block of rows of `width` words, in one.
+fn joined(x: &[u64], width: usize, count: usize, at: usize) -> u64
+    requires { ⌜ (at < width) × (count * width ≤ length (now x)) ⌝ }
+    ensures { λ r. ⌜ ((s : ℕ) → ltb 0 (r / 2 ^ s) ≡ someBelow count (λ k. ltb 0 (getD (now (x .entry)) (k * width + at) 0 / 2 ^ s))) ⌝ }
+{
+    let mut all = 0u64;
+    let mut k = 0;
+    while k < count {
+        all = all | x[k * width + at];
+        k += 1;
+    }
+    all
+}
+
+// Whether one of the first `count` rows of a block of rows of `width` words has a column at or above q set, row by row.
+fn stray_terms(x: &[u64], width: usize, count: usize, q: usize) -> bool
     ensures { λ r. ⌜ r ≡ straysIn width (now (x .entry)) count q ⌝ }
 {
-    if width <= q / 64 {
-        return false;
-    }
     let n = x.len();
     let mut a = 0;
     let mut k = 0;
@@ -196,4 +209,19 @@ pub fn stray_block(x: &[u64], width: usize, count: usize, q: usize) -> bool
         k += 1;
     }
     false
+}
+
+// The same. Rows that end below column q have none, and are not looked at; of rows that end in its word that word alone is, in all rows at once.
+pub fn stray_block(x: &[u64], width: usize, count: usize, q: usize) -> bool
+    ensures { λ r. ⌜ r ≡ straysIn width (now (x .entry)) count q ⌝ }
+{
+    let at = q / 64;
+    if width <= at {
+        return false;
+    }
+    if width != at + 1 {
+        return stray_terms(x, width, count, q);
+    }
+    let whole = least(count, x.len() / width);
+    joined(x, width, whole, at) >> (q % 64) != 0
 }

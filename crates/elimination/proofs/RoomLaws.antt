@@ -9,7 +9,7 @@ use mathlib.Core.Logic.{_≢_}
 use mathlib.Core.List.{List, [], _∷_}
 use mathlib.Core.Bool.{true, false}
 use lib.ListN.{length, getD, drop, set, length-set, length-take, length-drop}
-use lib.Seq.{getD-set-same, getD-set-other, getD-take, getD-drop, ext-getD}
+use lib.Seq.{getD-set-same, getD-set-other, ext-getD}
 use lib.Pow.{pow-mono}
 use lib.Bits.{bitXor, xor-zero-r}
 use borrow.Author.Tests.{eqb-true, eqb-false}
@@ -21,7 +21,7 @@ use Rattle.dense_block.specs.Words.{value, column, xors, zeroed, strays, termOf
 use Rattle.dense_block.proofs.Values.{Words, value-below}
 use Rattle.dense_block.proofs.Alongs.{length-along, value-xors}
 use Rattle.dense_block.proofs.Strays.{below-of, no-strays}
-use Rattle.dense_block.proofs.Terms.{row-within, words-term, length-term}
+use Rattle.dense_block.proofs.Terms.{row-within, words-term, length-term, term-at}
 use Rattle.elimination.specs.Eliminated.{Lowest, Swept, Eliminated}
 use Rattle.elimination.specs.Rooms.{rowAt, Added, Same}
 use Rattle.elimination.proofs.Elimination.{start, step-dead, step-sweep}
@@ -54,9 +54,6 @@ added-step from to n ws vs before inside a = record {
 -- row i lies before row r
 pub row-before : (i r width : ℕ) → i < r → i * width + width ≤ r * width
 row-before i r width h = row-within i r width (r * width) h (omega arith)
-
-term-at : (width : ℕ) (ws : List ℕ) (i x : ℕ) → x < width → getD (termOf width ws i) x 0 ≡ getD ws (i * width + x) 0
-term-at width ws i x h = getD-take width (drop (i * width) ws) x 0 h ∙ getD-drop (i * width) ws x 0
 
 -- a column of a row, read
 module _ (width : ℕ) (ws : List ℕ) (r : ℕ) (row : List ℕ) (e : row ≡ termOf width ws r) (p : ℕ) where

@@ -1,140 +1,103 @@
--- `dense_block::stray_block` meets its contract: no row so far has a column at or above q, the row at hand starts at a, and of the rows after one that is cut off none has words.
-use Prim.Native.Nat.{ℕ, _-_, _*_, _≤_}
-use mathlib.Core.Path.{_≡_, sym, ap, _∙_}
-use mathlib.Core.Bool.{Bool, false}
-use mathlib.Core.List.{List}
+-- `dense_block::stray_block` meets its contract: rows that end in the word of column q are settled by that word, and one that is cut off has none.
+use Prim.Native.Nat.{ℕ, zero, suc, _+_, _*_, _/_, _%_, _^_, _<_, _≤_}
+use mathlib.Core.Path.{_≡_, refl, sym, ap, _∙_}
+use mathlib.Core.Bool.{Bool, false, not}
+use native.Mathlib.Nat.{add-mul, one-mul, div-lt-iff-lt-mul}
+use native.Mathlib.Decide.{decLt}
 use native.Mathlib.Omega.{arith}
-use native.Mathlib.Nat.{add-mul, one-mul}
-use Rattle.refusal.proofs.Searches.{some-of, none-at, none-of, none-next, some-none, some-only}
-use Rattle.dense_block.specs.Words.{termOf, strays, straysIn}
-use Rattle.dense_block.proofs.Strays.{narrow, beyond}
-use Rattle.dense_block.proofs.Terms.{term-rest, term-whole}
+use borrow.Author.Tests.{lt-ltb, ne-eqb}
+use lib.Dec.{eqb, ltb}
+use lib.ListN.{length, getD}
+use Rattle.refusal.specs.Search.{someBelow}
+use Rattle.refusal.proofs.Searches.{none-of, some-past, some-same}
+use Rattle.dense_block.specs.Words.{strays, termOf, straysIn}
+use Rattle.dense_block.proofs.Strays.{narrow, last-word, cut-off}
+use Rattle.dense_block.proofs.Terms.{row-within, start-inside}
 use borrow.Author.Needs.{needs}
 use Rattle.dense_block.proofs.stray_block.Statement.{statement}
 use Rattle.dense_block.proofs.stray_block.Tie as tie
 
-abbrev Inv-loop : tie.InvT-loop
-Inv-loop x width count q n a₀ k₀ a k = (k ≤ count) × (a ≡ k * width) × (a ≤ n) × (straysIn width x k q ≡ false)
-
-abbrev μ-loop : tie.MeasureT-loop
-μ-loop x width count q n a₀ k₀ a k = count - k
-
-abbrev test : tie.Start Inv-loop μ-loop → ℕ → Bool
+abbrev test : tie.Start → ℕ → Bool
 test s j = let a = s .args in strays (termOf (a .width) (a .x .now) j) (a .q)
 
-returns : tie.Need-returns Inv-loop μ-loop
+not-zero : (n : ℕ) → not (eqb n 0) ≡ ltb 0 n
+not-zero zero = refl
+not-zero (suc n) = ap not (ne-eqb (suc n) 0 (λ e. omega (arith, e))) ∙ sym (lt-ltb 0 (suc n) (omega arith))
+
+-- as many rows as are whole
+fit : (c : tie.After-least) → let a = c .before .before .before .before .args in c .least .result * (a .width) ≤ length (a .x .now)
+fit c =
+    let a = c .before .before .before .before .args in
+    start-inside (length (a .x .now)) (a .width) (c .least .result) (λ e. omega (arith, c .before .before .if1 .left, e)) (omega (arith, c .least .ensures))
+
+-- the rows past those are cut off
+whole : (c : tie.After-least) → let a = c .before .before .before .before .args in straysIn (a .width) (a .x .now) (c .least .result) (a .q) ≡ straysIn (a .width) (a .x .now) (a .count) (a .q)
+unfolding straysIn
+whole c =
+    let a = c .before .before .before .before .args in
+    go (decLt (length (a .x .now) / a .width) (a .count))
+  where
+    past : let a = c .before .before .before .before .args in length (a .x .now) / a .width < a .count → (j : ℕ) → c .least .result ≤ j → test (c .before .before .before .before) j ≡ false
+    past h j l =
+        let a = c .before .before .before .before .args in
+        let p : 0 < a .width = omega (arith, c .before .before .if1 .left) in
+        let up : length (a .x .now) / a .width < j + 1 = omega (arith, c .least .ensures) in
+        cut-off (a .width) (a .x .now) (a .q) (λ i. c .before .before .before .shared-slice-known .given i .fits) (c .before .if2 .left) j (omega (arith, div-lt-iff-lt-mul p .0 up, add-mul j 1 (a .width), one-mul (a .width)))
+
+    go : let a = c .before .before .before .before .args in Dec (length (a .x .now) / a .width < a .count) → someBelow (c .least .result) (test (c .before .before .before .before)) ≡ someBelow (a .count) (test (c .before .before .before .before))
+    go (yes h) = sym (some-past (c .before .before .before .before .args .count) (c .least .result) (test (c .before .before .before .before)) (omega (arith, c .least .ensures)) (past h))
+    go (no h) = let e : c .least .result ≡ c .before .before .before .before .args .count = omega (arith, c .least .ensures, h) in ap (λ (m : ℕ). someBelow m (test (c .before .before .before .before))) e
+
+returns : tie.Need-returns
 unfolding straysIn
 returns c =
     let s = c .before .before in
     let a = s .args in
     sym (none-of (a .count) (test s) (λ j h. narrow (a .width) (a .x .now) j (a .q) (λ i. c .before .shared-slice-known .given i .fits) (c .if1 .taken)))
 
-loop-holds : tie.Need-loop-holds Inv-loop μ-loop
-unfolding straysIn
-loop-holds c = (omega arith, omega arith, omega arith, some-none 0 (test (c .before .before)) (omega arith))
+add-if2 : tie.Need-add-if2
+add-if2 c = search needs
 
-sub-if2 : tie.Need-sub-if2 Inv-loop μ-loop
-sub-if2 c = search needs
+stray-terms-requires : tie.Need-stray-terms-requires
+stray-terms-requires c κs = search needs
 
-mul-stray : tie.Need-mul-stray Inv-loop μ-loop
-mul-stray c = search needs
+returns-2 : tie.Need-returns-2
+returns-2 c = c .stray-terms .ensures
 
-sub-stray : tie.Need-sub-stray Inv-loop μ-loop
-sub-stray c = search needs
+div-least : tie.Need-div-least
+div-least c = search needs
 
-part-stray-start : tie.Need-part-stray-start Inv-loop μ-loop
-part-stray-start c = search needs
+least-requires : tie.Need-least-requires
+least-requires c κs = search needs
 
-part-stray-end : tie.Need-part-stray-end Inv-loop μ-loop
-part-stray-end c = search needs
+joined-requires : tie.Need-joined-requires
+joined-requires c κs = (omega (arith, c .before .before .if1 .left), fit c)
 
-stray-requires : tie.Need-stray-requires Inv-loop μ-loop
-stray-requires c κs = search needs
+shr-result : tie.Need-shr-result
+shr-result c = search needs
 
-returns-2 : tie.Need-returns-2 Inv-loop μ-loop
-unfolding straysIn
-returns-2 c =
-    let s = c .before .before .before .before .before .before .before in
-    let a = s .args in
-    let l = c .before .before .before .before .loop in
-    c .stray .ensures
-    ∙ ap (λ (t : List ℕ). strays t (a .q)) (term-rest (a .width) (a .x .now) (l .k) (l .a) (l .inv .1) (c .before .before .if2 .taken))
-    ∙ sym (some-only (a .count) (test s) (l .k) (c .before .before .before .loop-test .taken) (none-at (l .k) (test s) (l .inv .3)) (λ j g. beyond (a .width) (a .x .now) (l .k) j (a .q) (omega (arith, l .inv .1, l .inv .2, c .before .before .if2 .taken)) g))
-
-add-e : tie.Need-add-e Inv-loop μ-loop
-add-e c = search needs
-
-mul-stray-2 : tie.Need-mul-stray-2 Inv-loop μ-loop
-mul-stray-2 c = search needs
-
-sub-stray-2 : tie.Need-sub-stray-2 Inv-loop μ-loop
-sub-stray-2 c = search needs
-
-part-stray-start-2 : tie.Need-part-stray-start-2 Inv-loop μ-loop
-part-stray-start-2 c = search needs
-
-part-stray-end-2 : tie.Need-part-stray-end-2 Inv-loop μ-loop
-part-stray-end-2 c = search needs
-
-stray-requires-2 : tie.Need-stray-requires-2 Inv-loop μ-loop
-stray-requires-2 c κs = search needs
-
-returns-3 : tie.Need-returns-3 Inv-loop μ-loop
+returns-3 : tie.Need-returns-3
 unfolding straysIn
 returns-3 c =
-    let s = c .before .before .before .before .before .before .before .before in
+    let s = c .before .before .before .before .before in
     let a = s .args in
-    let l = c .before .before .before .before .before .loop in
-    sym (some-of (a .count) (test s) (l .k) (c .before .before .before .before .loop-test .taken) (ap (λ (t : List ℕ). strays t (a .q)) (sym (term-whole (a .width) (a .x .now) (l .k) (l .a) (l .inv .1))) ∙ sym (c .before .stray2 .ensures) ∙ c .if3 .taken))
-
-add-k : tie.Need-add-k Inv-loop μ-loop
-add-k c = search needs
-
-loop-less : tie.Need-loop-less Inv-loop μ-loop
-loop-less c = search needs
-
-loop-again : tie.Need-loop-again Inv-loop μ-loop
-unfolding straysIn
-loop-again c =
-    let s = c .before .before .before .before .before .before .before .before in
-    let a = s .args in
-    let l = c .before .before .before .before .before .loop in (
-      omega (arith, c .before .before .before .before .loop-test .taken),
-      omega (arith, l .inv .1, add-mul (l .k) 1 (a .width), one-mul (a .width)),
-      omega (arith, l .inv .2, c .before .before .before .if2 .left),
-      none-next (l .k) (test s) (l .inv .3) (ap (λ (t : List ℕ). strays t (a .q)) (sym (term-whole (a .width) (a .x .now) (l .k) (l .a) (l .inv .1))) ∙ sym (c .before .stray2 .ensures) ∙ c .if3 .left),
-    )
-
-returns-4 : tie.Need-returns-4 Inv-loop μ-loop
-returns-4 c =
-    let a = c .before .before .before .before .args in
-    let l = c .before .loop in
-    let e : a .count ≡ l .k = omega (arith, l .inv .0, c .loop-test .left) in
-    sym (ap (λ (m : ℕ). straysIn (a .width) (a .x .now) m (a .q)) e ∙ l .inv .3)
+    let m = c .before .least .result in
+    not-zero (c .joined .result / 2 ^ (a .q % 64))
+    ∙ c .joined .ensures (a .q % 64)
+    ∙ sym (some-same m (test s) (λ k. ltb 0 (getD (a .x .now) (k * (a .width) + a .q / 64) 0 / 2 ^ (a .q % 64)))
+    (λ k h. last-word (a .width) (a .x .now) (a .q) (λ i. c .before .before .before .before .shared-slice-known .given i .fits) (c .before .before .if2 .left) k (row-within k m (a .width) (length (a .x .now)) h (fit (c .before)))))
+    ∙ whole (c .before)
 
 pub stray-block-spec : {M : Type 1} → statement M
 stray-block-spec =
     tie.close
     (tie.spec
-    Inv-loop
-    μ-loop
     returns
-    loop-holds
-    sub-if2
-    mul-stray
-    sub-stray
-    part-stray-start
-    part-stray-end
-    stray-requires
+    add-if2
+    stray-terms-requires
     returns-2
-    add-e
-    mul-stray-2
-    sub-stray-2
-    part-stray-start-2
-    part-stray-end-2
-    stray-requires-2
-    returns-3
-    add-k
-    loop-less
-    loop-again
-    returns-4)
+    div-least
+    least-requires
+    joined-requires
+    shr-result
+    returns-3)
