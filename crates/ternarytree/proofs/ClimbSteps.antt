@@ -1,15 +1,16 @@
 -- Steps of the climbs, and what the tables tell of the tests of a whole tree.
-use Prim.Native.Nat.{ℕ, zero, suc, _+_, _-_, _*_, _/_, _<_, _≤_}
+use Prim.Native.Nat.{ℕ, zero, suc, _-_, _*_, _/_, _<_, _≤_}
 use native.Mathlib.Omega.{arith}
 use mathlib.Core.Path.{_≡_, refl, sym, ap, _∙_}
 use mathlib.Core.Logic.{_≢_}
 use mathlib.Core.Bool.{Bool, true, false, cond, not, _&&_, _||_}
 use mathlib.Core.List.{List}
 use borrow.Author.Tests.{eq-eqb, ne-eqb, lt-ltb}
-use lib.Dec.{eqb, ltb}
-use lib.ListN.{getD}
+use lib.Dec.{eqb}
 use Rattle.refusal.specs.Search.{Least, found, none, someBelow}
 use Rattle.refusal.proofs.Searches.{some-of, none-of}
+use Rattle.trees.specs.Hanging.{Hangs, itself, below}
+use Rattle.trees.proofs.OneRoot.{hangs-climb, hangs-through, to-root}
 use Rattle.trees.specs.Trees.{some, onward, Tree, up, climb, parentIn, leafIn, scattered, missing}
 use Rattle.ternarytree.specs.Tables.{nth, code, AtMost, Parents, linkOf, Links, Ways, Wired, slotVerdict, verdict}
 use Rattle.ternarytree.proofs.Codes.{code-some, code-none, link-none}
@@ -38,6 +39,14 @@ unfolding climb
 climb-none t zero i h = refl
 climb-none t (suc l) i h = absurd (omega arith)
 
+-- a node hangs from the one above it
+pub hangs-step : (t : Tree) (i u : ℕ) → u ≡ linkOf (code (up t i)) → u / 4 ≢ 0 → Hangs t (u / 4 - 1) i
+hangs-step t i u h ne = go (up t i) refl h
+  where
+    go : (o : Least) → up t i ≡ o → u ≡ linkOf (code o) → Hangs t (u / 4 - 1) i
+    go (found k) e g = let s : k / 3 ≡ u / 4 - 1 = omega arith in below e (itself s)
+    go none e g = absurd (ne (omega arith))
+
 -- ---- one root
 
 or-true : (a b : Bool) → b ≡ true → (a || b) ≡ true
@@ -65,6 +74,13 @@ module _ (t : Tree) where
 module _ (t : Tree) (n : ℕ) (l : List ℕ) (p : Parents t n l) where
   pub top-has-parent : (top : ℕ) → top < n → top ≡ climb t n 0 → nth l top ≢ 0 → true ≡ scattered t
   top-has-parent top h e ne = sym (root-has-parent t (λ z. ne (p .ups top h ∙ rw (e, ← p .size) z)))
+
+  -- a node that hangs from one from which the root is reached
+  pub on-the-way : (top i r : ℕ) → top < n → nth l top ≡ 0 → i < n → Hangs t r i → climb t n r ≡ top → climb t n i ≡ top
+  on-the-way top i r h z low g e =
+      let root : up t top ≡ none = code-none (up t top) (sym (p .ups top h) ∙ z) in
+      let g′ : Hangs t top i = hangs-through t g (rw e at (hangs-climb t n r)) in
+      ap (λ (m : ℕ). climb t m i) (sym (p .size)) ∙ to-root t top i (rw (← p .size) at low) root g′
 
   pub another-top : (top i r : ℕ) → i < n → top ≡ climb t n 0 → r ≡ climb t n i → r ≢ top → true ≡ scattered t
   another-top top i r h e e′ ne =

@@ -6,6 +6,7 @@ ghost use mathlib.Core.List.{List};
 ghost use Prim.Native.Nat.{ℕ, _+_, _*_, _<_, _≤_};
 ghost use lib.ListN.{length};
 ghost use Rattle.trees.specs.Trees.{Tree, climb, scattered, missing};
+ghost use Rattle.trees.specs.Hanging.{Hangs};
 ghost use Rattle.ternarytree.specs.Building.{qubitAt};
 ghost use Rattle.ternarytree.specs.Tables.{nth, AtMost, Blank, flat, Parents, linkOf, Links, Ways, Children, Wired, verdict};
 
@@ -22,10 +23,10 @@ pub fn link(parents: &[usize; 256], n: usize, links: &mut [usize; 256])
     }
 }
 
-// The node that n steps up from node i lead to.
+// The node that n steps up from node i lead to, or the first node on the way that is below i.
 pub fn climb_up(links: &[usize; 256], n: usize, i: usize) -> usize
     requires { ⌜ (n ≤ 256) × (i < n) × Ways n (now links) ⌝ }
-    ensures { λ r. ⌜ (r < n) × ((t : Tree) → Links t n (now (links .entry)) → r ≡ climb t n i) ⌝ }
+    ensures { λ r. ⌜ (r < n) × ((t : Tree) → Links t n (now (links .entry)) → Hangs t r i × (i ≤ r → r ≡ climb t n i)) ⌝ }
 {
     let mut at = i;
     let mut left = n;
@@ -35,12 +36,15 @@ pub fn climb_up(links: &[usize; 256], n: usize, i: usize) -> usize
             return at;
         }
         at = up - 1;
+        if at < i {
+            return at;
+        }
         left -= 1;
     }
     at
 }
 
-// Whether not all nodes hang from one root.
+// Whether not all nodes hang from one root. A climb need not go past a node that was climbed from before.
 pub fn is_scattered(parents: &[usize; 256], n: usize) -> bool
     requires { ⌜ (n ≤ 256) × (0 < n) × AtMost n (3 * n) (nth (now parents)) ⌝ }
     ensures { λ r. ⌜ ((t : Tree) → Parents t n (now (parents .entry)) → r ≡ scattered t) ⌝ }
@@ -53,8 +57,11 @@ pub fn is_scattered(parents: &[usize; 256], n: usize) -> bool
     }
     let mut i = 0;
     while i < n {
-        if climb_up(&links, n, i) != top {
-            return true;
+        let r = climb_up(&links, n, i);
+        if i <= r {
+            if r != top {
+                return true;
+            }
         }
         i += 1;
     }

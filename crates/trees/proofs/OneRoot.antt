@@ -72,7 +72,7 @@ module _ (t : Tree) where
       go (found k) e rest = let p = parent-names t _ _ k e in rest k (omega arith)
       go none e rest = h
 
-  hangs-climb : (f i : ℕ) → Hangs t (climb t f i) i
+  pub hangs-climb : (f i : ℕ) → Hangs t (climb t f i) i
   unfolding climb
   hangs-climb zero i = itself refl
   hangs-climb (suc f) i = go (up t i) refl (λ k. hangs-climb f (k / 3))
@@ -80,6 +80,11 @@ module _ (t : Tree) where
       go : (o : Least) → up t i ≡ o → ((k : ℕ) → Hangs t (climb t f (k / 3)) (k / 3)) → Hangs t (onward o i (λ k. climb t f (k / 3))) i
       go (found k) e rest = below e (rest k)
       go none e rest = itself refl
+
+  -- what hangs from a node hangs from all that the node hangs from
+  pub hangs-through : {a r i : ℕ} → Hangs t a i → Hangs t r a → Hangs t r i
+  hangs-through (itself e) g = rw e g
+  hangs-through (below e h) g = below e (hangs-through h g)
 
   -- ---- a node that hangs from a root is fewer than n steps below it
 
@@ -103,7 +108,7 @@ module _ (t : Tree) where
   depth {i = i} h (below {k = k} e g) = let (d, s, a, c) = depth h g in (suc d, join (letter t k) s, step e a, climb-here d i k e ∙ c)
 
   -- n steps lead to the root
-  to-root : (r i : ℕ) → i < t .n → up t r ≡ none → Hangs t r i → climb t (t .n) i ≡ r
+  pub to-root : (r i : ℕ) → i < t .n → up t r ≡ none → Hangs t r i → climb t (t .n) i ≡ r
   to-root r i h e g = let (d, s, a, c) = depth e g in more-steps (t .n) a (omega (arith, steps-few h a)) ∙ c
 
   pub one-root : 0 < t .n → (scattered t ≡ false) ↔ OneRoot t
