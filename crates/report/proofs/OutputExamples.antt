@@ -9,7 +9,7 @@ use Rattle.algebra.specs.Modes.{vacuumRule, empty, paired, d, e, commutingPair}
 use Rattle.algebra.specs.Choices.{combo, dependent}
 use Rattle.trees.specs.Trees.{parentIn, leafIn, twiceIn, firstFault, faultOf, leafFault, scattered, climb, missing}
 use Rattle.trees.specs.Flatpacks.{childOf, entryIn, past, leafNumbered}
-use Rattle.ternarytree.specs.Building.{outside}
+use Rattle.tree_sizes.specs.Sizes.{outside}
 use Rattle.trees.specs.Paths.{letter, above, rowAt}
 use Rattle.trees.specs.Leaves.{namedSlot, slotOf}
 use Rattle.flatpack_text.specs.Text.{parse, cut, isDigit, fieldOf, linesOf}

@@ -23,7 +23,8 @@ use Rattle.trees.specs.declared.Slot as flat
 use Rattle.trees.specs.Trees.{Tree}
 use Rattle.trees.specs.Flatpacks.{Flatpack, past, flatTree}
 use Rattle.trees.specs.Leaves.{rows}
-use Rattle.ternarytree.specs.Building.{Input, given, packOf, treeOf, outside, reaches, qubitAt, slotAt, badSize, tooShort, badQubits, treeChecks, answer}
+use Rattle.tree_sizes.specs.Sizes.{outside, reaches, qubitAt}
+use Rattle.ternarytree.specs.Building.{Input, given, packOf, treeOf, slotAt, badSize, tooShort, badQubits, treeChecks, answer}
 use Rattle.report.specs.declared.reply.Reply.{Reply}
 use Rattle.flatpack_text.specs.Text.{lines, Entry, linesOf, wellFormed, malformed, isEmpty, parse}
 use Rattle.flatpack_text.specs.Machine.{most, told, numbersOf, kept}

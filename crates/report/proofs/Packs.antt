@@ -10,7 +10,8 @@ use lib.Seq.{getD-set-same, getD-set-other}
 use borrow.Author.Tests.{eqb-true, eqb-false, ltb-true, ltb-false, ne-eqb, eq-eqb}
 use Rattle.dense_block.specs.Words.{copied}
 use Rattle.trees.specs.declared.Slot.the-variants.{Blank, Number}
-use Rattle.ternarytree.specs.Building.{qubitAt, slotAt}
+use Rattle.tree_sizes.specs.Sizes.{qubitAt}
+use Rattle.ternarytree.specs.Building.{slotAt}
 use Rattle.flatpack_text.specs.Text.{Slot, empty, numbered, Entry}
 use Rattle.flatpack_text.specs.Machine.{slotNumber, numbersOf}
 use Rattle.flatpack_text.specs.Entries.{placed, plainAt, filledAt}

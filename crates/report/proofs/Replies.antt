@@ -26,7 +26,8 @@ use Rattle.dense_block.proofs.Values.{words-hold}
 use Rattle.dense_block.proofs.Blocks.{row-laid, number-listed}
 use Rattle.trees.specs.Trees.{onward, Tree, leafIn, is, rowOf as leafRow}
 use Rattle.trees.specs.Leaves.{namedSlot, slotOf, rows}
-use Rattle.ternarytree.specs.Building.{Input, given, treeOf, outside, reaches, qubitAt, badSize, badQubits, tooShort, treeChecks, answer, settled, FlatBuilt}
+use Rattle.tree_sizes.specs.Sizes.{outside, reaches, qubitAt}
+use Rattle.ternarytree.specs.Building.{Input, given, treeOf, badSize, badQubits, tooShort, treeChecks, answer, settled, FlatBuilt}
 use Rattle.trees.proofs.Bounds.{Within, low-row}
 use Rattle.report.specs.Report.{rowIn, rowLines, report, refusedLine, wrote, written, reportLength, reported}
 use Rattle.flatpack_text.specs.Entries.{placed, plainAt, filledAt, used}

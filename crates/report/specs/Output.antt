@@ -14,7 +14,8 @@ use Rattle.trees.specs.declared.Slot as flat
 use Rattle.trees.specs.declared.Slot.the-variants.{Blank, Number}
 use Rattle.trees.specs.Flatpacks.{Flatpack, past, flatTree}
 use Rattle.trees.specs.Leaves.{rows}
-use Rattle.ternarytree.specs.Building.{Input, given, outside, treeChecks, treeOf, answer}
+use Rattle.tree_sizes.specs.Sizes.{outside}
+use Rattle.ternarytree.specs.Building.{Input, given, treeChecks, treeOf, answer}
 use Rattle.flatpack_text.specs.Text.{Slot, empty, numbered, Entry, Parsed, wellFormed, malformed, parse}
 use Rattle.report.specs.Report.{refusedLine, report, wrote, written, reportLength, reported}
 use Rattle.report.specs.declared.reply.Reply.{Reply}

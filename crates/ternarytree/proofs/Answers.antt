@@ -4,8 +4,8 @@ use native.Mathlib.Omega.{arith}
 use mathlib.Core.Path.{_≡_, refl, sym, _∙_}
 use mathlib.Core.Bool.{Bool, true, false, _||_}
 use mathlib.Core.List.{List, [], _∷_}
-use borrow.Author.Tests.{ltb-true, ltb-false, leb-false, eqb-false, ne-eqb}
-use lib.Dec.{eqb, leb, ltb}
+use borrow.Author.Tests.{ltb-true, leb-false, ne-eqb}
+use lib.Dec.{leb, ltb}
 use lib.ListN.{length}
 use Rattle.refusal.specs.declared.Answer.{Answer}
 use Rattle.refusal.specs.declared.Answer.the-variants.{Refused}
@@ -19,17 +19,13 @@ use Rattle.dense_block.specs.Words.{wordsFor, zeroed}
 use Rattle.trees.specs.Trees.{Tree, firstFault}
 use Rattle.trees.specs.Leaves.{rows}
 use Rattle.trees.specs.Named.{namedTree}
-use Rattle.ternarytree.specs.Building.{needed, treeChecks, outside, Input, qubitAt, treeOf, reaches, unreadable, badSize, tooShort, badQubits, answer, FlatBuilt, NamedInput, namedAnswer, NamedBuilt}
+use Rattle.tree_sizes.proofs.SizeLaws.{inside}
+use Rattle.tree_sizes.specs.Sizes.{outside, qubitAt, reaches, unreadable}
+use Rattle.ternarytree.specs.Building.{needed, treeChecks, Input, treeOf, badSize, tooShort, badQubits, answer, FlatBuilt, NamedInput, namedAnswer, NamedBuilt}
 use Rattle.ternarytree.specs.Tables.{AtMost, flat, flatTask, TreeBuilt}
 use Rattle.ternarytree.proofs.Verdicts.{fault-number}
 
 -- ---- sizes
-
-pub inside : (k : ℕ) → outside k ≡ false → (0 < k) × (k ≤ 256)
-unfolding outside
-inside k h =
-    let ne = eqb-false k 0 (or-left (eqb k 0) (ltb 256 k) h) in
-    (omega (arith, ne), ltb-false 256 k (or-right (eqb k 0) (ltb 256 k) h))
 
 -- a qubit that is below q lies in the words for q columns
 pub qubits-lie : (es : List ℕ) (n q w : ℕ) → w ≡ wordsFor q → (ltb q n || reaches es n q) ≡ false → (i : ℕ) → i < n → qubitAt es i / 64 < w

@@ -11,7 +11,8 @@ use lib.Count.{ones, onesIn}
 use lib.ListN.{replicate}
 use Rattle.trees.specs.Trees.{parentIn, leafIn, twiceIn, firstFault, faultOf, leafFault, scattered, climb, missing}
 use Rattle.trees.specs.Flatpacks.{childOf, entryIn, past, leafNumbered}
-use Rattle.ternarytree.specs.Building.{Input, given, answer, badSize, tooShort, badQubits, outside, reaches, unreadable, faultSlot, faultPlace, NamedInput, asked, namedAnswer}
+use Rattle.tree_sizes.specs.Sizes.{outside, reaches, unreadable}
+use Rattle.ternarytree.specs.Building.{Input, given, answer, badSize, tooShort, badQubits, faultSlot, faultPlace, NamedInput, asked, namedAnswer}
 use Rattle.trees.specs.Paths.{letter, above, rowAt}
 use Rattle.trees.specs.Leaves.{namedSlot, zEnd, chainEnd, slotOf}
 use Rattle.trees.specs.declared.Named.{Named}

@@ -37,7 +37,8 @@ use Rattle.trees.specs.Trees.{Tree}
 use Rattle.trees.specs.Leaves.{slotOf, rows}
 use Rattle.trees.specs.declared.Named.{Named}
 use Rattle.trees.specs.Named.{namedTree}
-use Rattle.ternarytree.specs.Building.{Outputs, needed, Built, treeChecks, outside, Input, qubitAt, reaches, packOf, treeOf, badSize, tooShort, badQubits, answer, FlatBuilt, NamedInput, namedAnswer, NamedBuilt}
+use Rattle.tree_sizes.specs.Sizes.{outside, qubitAt, reaches}
+use Rattle.ternarytree.specs.Building.{Outputs, needed, Built, treeChecks, Input, packOf, treeOf, badSize, tooShort, badQubits, answer, FlatBuilt, NamedInput, namedAnswer, NamedBuilt}
 use Rattle.ternarytree.specs.Tables.{verdict}
 use Rattle.trees.proofs.Sound.{sound}
 use Rattle.trees.proofs.Naive.{Closed, naive-low}

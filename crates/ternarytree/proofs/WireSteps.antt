@@ -15,7 +15,8 @@ use Rattle.trees.specs.declared.Child.{Child}
 use Rattle.trees.specs.Trees.{nodeOf, Tree, parentIn, leafIn, twiceIn, faultOf, fault, firstFault}
 use Rattle.trees.specs.declared.Slot.{Slot}
 use Rattle.trees.specs.Flatpacks.{entryIn, past}
-use Rattle.ternarytree.specs.Building.{qubitAt, slotAt, faultSlot}
+use Rattle.tree_sizes.specs.Sizes.{qubitAt}
+use Rattle.ternarytree.specs.Building.{slotAt, faultSlot}
 use Rattle.ternarytree.specs.Tables.{code, Holds, AtMost, Blank, childIn, flat, NodeBelow, Children, Wired, slotVerdict}
 use Rattle.ternarytree.proofs.Codes.{in-order}
 use Rattle.ternarytree.proofs.EntrySteps.{child-is}

@@ -3,11 +3,11 @@ use Prim.Native.Nat.{ℕ, _+_, _*_, _/_, _%_}
 use mathlib.Core.Path.{_≡_}
 use mathlib.Core.List.{List, [], _∷_}
 use mathlib.Core.Bool.{Bool, false, cond, not, _&&_, _||_}
-use lib.Dec.{eqb, leb, ltb}
+use lib.Dec.{eqb, ltb}
 use lib.ListN.{length, getD}
 use Rattle.refusal.specs.declared.Answer.{Answer}
 use Rattle.refusal.specs.Numbers.{Paper, answered}
-use Rattle.refusal.specs.Search.{someBelow, Least, found, none, leastBelow}
+use Rattle.refusal.specs.Search.{Least, found, none, leastBelow}
 use Rattle.refusal.specs.Table.{Rule, _gives_, _names_, firstOf, Lent, _of_, short, onDone, pastTwo}
 use Rattle.algebra.specs.Modes.{Modes, vacuumRule, commutingPair}
 use Rattle.algebra.specs.Choices.{dependent}
@@ -22,6 +22,7 @@ use Rattle.trees.specs.declared.Slot.the-variants.{Blank as blank, Number as nu
 use Rattle.trees.specs.Flatpacks.{Flatpack, flatTree}
 use Rattle.trees.specs.declared.Named.{Named}
 use Rattle.trees.specs.Named.{namedTree}
+use Rattle.tree_sizes.specs.Sizes.{outside, qubitAt, reaches, outputsLent, unreadable}
 
 -- ---- what is written
 
@@ -35,7 +36,7 @@ pub record Outputs : Type 0 where
 
 -- of n modes, with w words to a part of a row
 abbrev pub needed : ℕ → ℕ → Outputs → List Lent
-needed n w o = (2 * n * w of length (o .xs)) ∷ (2 * n * w of length (o .zs)) ∷ (2 * n of length (o .ps)) ∷ (w of length (o .vs)) ∷ (4 * n * w of length (o .room)) ∷ []
+needed n w o = outputsLent n w (length (o .xs)) (length (o .zs)) (length (o .ps)) (length (o .vs)) (length (o .room))
 
 -- done, refused by 13, refused by another number
 abbrev pub settled : {A : Type 0} → Paper → A → A → A → A
@@ -66,10 +67,6 @@ treeChecks leaves t =
     ∷ (leaves && missing t gives 9)
     ∷ rowChecks (rows leaves t) 0
 
--- 0 or above 256
-unfoldable pub outside : ℕ → Bool
-outside k = eqb k 0 || ltb 256 k
-
 -- ---- flatpacks
 
 -- n entries for q qubits, with leaves or naive. Entry i is the numbers 4i (its qubit), 4i + 1, 4i + 2 and 4i + 3 (its X, Y and Z slots) of es; the slot is empty if
@@ -85,9 +82,6 @@ pub record Input : Type 0 where
 abbrev pub given : Bool → ℕ → ℕ → List ℕ → List Bool → List ℕ → List ℕ → List ℕ → List ℕ → List ℕ → Input
 given leaves n q es fs xs zs ps vs room = record { leaves = leaves; n = n; q = q; es = es; fs = fs; out = record { xs = xs; zs = zs; ps = ps; vs = vs; room = room } }
 
-abbrev pub qubitAt : List ℕ → ℕ → ℕ
-qubitAt es i = getD es (4 * i) 0
-
 abbrev pub slotAt : List ℕ → List Bool → ℕ → Slot
 slotAt es fs k = cond (getD fs k false) (number (getD es (4 * (k / 3) + k % 3 + 1) 0)) blank
 
@@ -96,10 +90,6 @@ packOf i = record { n = i .n; qubit = qubitAt (i .es); slot = slotAt (i .es) (i 
 
 abbrev pub treeOf : Input → Tree
 treeOf i = flatTree (i .leaves) (packOf i)
-
--- the qubit of one of n entries is at or above b
-unfoldable pub reaches : List ℕ → ℕ → ℕ → Bool
-reaches es n b = someBelow n (λ k. leb b (qubitAt es k))
 
 -- modes 0 or above 256, qubits 0 or above 256, a flatpack qubit above 255
 unfoldable pub badSize : Input → Bool
@@ -128,10 +118,6 @@ placed (slot k) = found k
 -- entry by entry, X, Y, Z: the first slot that has a fault. 7 comes before the slots, and is no slot's
 unfoldable pub faultSlot : Tree → Least
 faultSlot t = cond (twice t) none (leastBelow (3 * t .n) (λ k. ltb 0 (fault t k)))
-
--- modes 0 or above 256, slices too short, a qubit above 255
-unfoldable pub unreadable : ℕ → List ℕ → List Bool → Bool
-unreadable n es fs = outside n || (short ((4 * n of length es) ∷ (3 * n of length fs) ∷ []) || reaches es n 256)
 
 -- of n entries, with leaves or naive: none too if the slots cannot be read
 unfoldable pub faultPlace : Bool → ℕ → List ℕ → List Bool → Least

@@ -21,7 +21,8 @@ use Rattle.trees.specs.Leaves.{slotOf}
 use Rattle.trees.specs.declared.Slot.{Slot}
 use Rattle.trees.specs.declared.Slot.the-variants.{Blank as blank, Number as number}
 use Rattle.trees.specs.Flatpacks.{unnamed, named, flatTree}
-use Rattle.ternarytree.specs.Building.{settled, treeChecks, qubitAt, slotAt, reaches}
+use Rattle.tree_sizes.specs.Sizes.{qubitAt, reaches}
+use Rattle.ternarytree.specs.Building.{settled, treeChecks, slotAt}
 
 -- element k of a list, 0 past its end
 abbrev pub nth : List ℕ → ℕ → ℕ

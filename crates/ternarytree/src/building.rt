@@ -18,7 +18,8 @@ ghost use Rattle.dense_block.specs.Words.{wordsFor};
 ghost use Rattle.trees.specs.Trees.{Tree};
 ghost use Rattle.trees.specs.Leaves.{slotOf, rows};
 ghost use Rattle.trees.specs.Named.{namedTree};
-ghost use Rattle.ternarytree.specs.Building.{qubitAt, treeChecks};
+ghost use Rattle.tree_sizes.specs.Sizes.{qubitAt};
+ghost use Rattle.ternarytree.specs.Building.{treeChecks};
 ghost use Rattle.ternarytree.specs.Tables.{nth, AtMost, flat, Children, Wired, Slots, verdict, rowsAnswer, flatTask, Ready, TreeBuilt};
 
 // Writes the rows of a tree that passed its tests, from its tables, and the all-zero vacuum. If the rows break the vacuum rule there: 13, and zeros over all.
@@ -119,7 +120,7 @@ pub fn build_within(
     requires { ⌜ (n ≤ 256) × (0 < n) × (q ≤ 256) × (w ≡ wordsFor q) × (4 * n ≤ length (now entries)) × (3 * n ≤ length (now filled)) × (2 * n * w ≤ length (now x)) × (2 * n * w ≤ length (now z)) × (2 * n ≤ length (now phases)) ⌝ }
     ensures { λ r. ⌜ TreeBuilt (flatTask leaves n q (now (entries .entry)) (now (filled .entry))) w (rows leaves (flat leaves n (now (entries .entry)) (now (filled .entry)))) (now (x .entry)) (now (z .entry)) (now (phases .entry)) (now (vacuum .entry)) r (now (x .exit)) (now (z .exit)) (now (phases .exit)) (now (vacuum .exit)) ⌝ }
 {
-    if crate::bad_qubits(entries, n, q) {
+    if tree_sizes::bad_qubits(entries, n, q) {
         return Answer::Refused(Refusal::Qubits);
     }
     build_flat(leaves, entries, filled, n, w, x, z, phases, vacuum)

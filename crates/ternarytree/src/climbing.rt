@@ -7,7 +7,7 @@ ghost use Prim.Native.Nat.{ℕ, _+_, _*_, _<_, _≤_};
 ghost use lib.ListN.{length};
 ghost use Rattle.trees.specs.Trees.{Tree, climb, scattered, missing};
 ghost use Rattle.trees.specs.Hanging.{Hangs};
-ghost use Rattle.ternarytree.specs.Building.{qubitAt};
+ghost use Rattle.tree_sizes.specs.Sizes.{qubitAt};
 ghost use Rattle.ternarytree.specs.Tables.{nth, AtMost, Blank, flat, Parents, linkOf, Links, Ways, Children, Wired, verdict};
 
 // The way up from each of n nodes: 4 times one more than the node above it, or 0 if there is none, and the letter of the slot that it stands in.

@@ -11,7 +11,8 @@ ghost use Rattle.trees.specs.declared.Child.the-variants.{Node as node};
 ghost use Rattle.trees.specs.Trees.{Tree, nodeOf, rowOf, parentIn, leafIn, twiceIn, leafFault, faultOf};
 ghost use Rattle.refusal.specs.Search.{found};
 ghost use Rattle.trees.specs.Flatpacks.{entryIn, past, leafNumbered};
-ghost use Rattle.ternarytree.specs.Building.{qubitAt, slotAt, faultSlot, placed};
+ghost use Rattle.tree_sizes.specs.Sizes.{qubitAt};
+ghost use Rattle.ternarytree.specs.Building.{slotAt, faultSlot, placed};
 ghost use Rattle.ternarytree.specs.Tables.{nth, code, Holds, AtMost, Blank, childIn, flat, NodeBelow, Children, Wired, slotVerdict};
 
 // The qubit of each entry.

@@ -2,7 +2,8 @@
 use mathlib.Core.Path.{_≡_, refl, sym, _∙_}
 use mathlib.Core.Bool.{false}
 use lib.ListN.{getD-replicate}
-use Rattle.ternarytree.specs.Building.{unreadable, faultPlace}
+use Rattle.tree_sizes.specs.Sizes.{unreadable}
+use Rattle.ternarytree.specs.Building.{faultPlace}
 use Rattle.ternarytree.proofs.Answers.{readable}
 use borrow.Author.Needs.{needs}
 use Rattle.ternarytree.proofs.find_fault.Statement.{statement}

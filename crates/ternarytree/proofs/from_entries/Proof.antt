@@ -4,13 +4,15 @@ use native.Mathlib.Nat.{mul-le-mul}
 use native.Mathlib.Omega.{arith}
 use mathlib.Core.Path.{_≡_, sym, _∙_}
 use mathlib.Core.Bool.{true, false}
-use mathlib.Core.List.{List, [], _∷_}
+use mathlib.Core.List.{List, _∷_}
 use lib.ListN.{length}
-use Rattle.refusal.specs.Table.{Lent, _of_}
+use Rattle.refusal.specs.Table.{Lent, _of_, short}
 use Rattle.refusal.proofs.Bools.{or-left, or-right}
 use Rattle.refusal.proofs.Rooms.{Hold, hold}
-use Rattle.ternarytree.specs.Building.{Input, given, outside, badSize, tooShort}
-use Rattle.ternarytree.proofs.Answers.{inside, flat-size, flat-lengths, flat-task}
+use Rattle.tree_sizes.specs.Sizes.{outside, outputsLent}
+use Rattle.ternarytree.specs.Building.{Input, given, badSize, tooShort}
+use Rattle.tree_sizes.proofs.SizeLaws.{inside, few-short}
+use Rattle.ternarytree.proofs.Answers.{flat-size, flat-lengths, flat-task}
 use borrow.Author.Needs.{needs}
 use Rattle.ternarytree.proofs.from_entries.Statement.{statement}
 use Rattle.ternarytree.proofs.from_entries.Tie as tie
@@ -39,18 +41,23 @@ few c = omega (arith, qubits-in (c .before) .1, c .words-for .ensures)
 small : (c : tie.After-words-for) → 4 * start (c .before) .args .modes * c .words-for .result ≤ 4096
 small c = let h : 4 * start (c .before) .args .modes ≤ 1024 = omega (arith, modes-in (c .before) .1) in mul-le-mul h (few c)
 
+-- the lengths that were tested
+abbrev lent : tie.After-flat-short → List Lent
+lent c =
+    let a = start (c .before .before) .args in
+    (4 * a .modes of length (a .entries .now)) ∷ (3 * a .modes of length (a .filled .now)) ∷ outputsLent (a .modes) (c .before .words-for .result) (length (a .x .now)) (length (a .z .now)) (length (a .phases .now)) (length (a .vacuum .now)) (length (a .room .now))
+
+tested : (c : tie.After-flat-short) → short (lent c) ≡ c .flat-short .result
+tested c =
+    let f = c .before .before in
+    sym (few-short (start f .args .modes) (c .before .words-for .result) (lent c) (modes-in f .1) (few (c .before))) ∙ sym (c .flat-short .ensures)
+
 lengths-pass : (e : tie.Else2) → tooShort (input (start (e .before .before .before))) ≡ false
 unfolding tooShort
-lengths-pass e = rw (e .before .before .words-for .ensures) at (sym (e .before .flat-short .ensures) ∙ e .if2 .left)
+lengths-pass e = rw (e .before .before .words-for .ensures) at (tested (e .before) ∙ e .if2 .left)
 
-abbrev lent : tie.Else2 → List Lent
-lent e =
-    let a = start (e .before .before .before) .args in
-    let w = e .before .before .words-for .result in
-    (4 * a .modes of length (a .entries .now)) ∷ (3 * a .modes of length (a .filled .now)) ∷ (2 * a .modes * w of length (a .x .now)) ∷ (2 * a .modes * w of length (a .z .now)) ∷ (2 * a .modes of length (a .phases .now)) ∷ (w of length (a .vacuum .now)) ∷ (4 * a .modes * w of length (a .room .now)) ∷ []
-
-holds : (e : tie.Else2) → Hold (lent e)
-holds e = hold (lent e) (sym (e .before .flat-short .ensures) ∙ e .if2 .left)
+holds : (e : tie.Else2) → Hold (lent (e .before))
+holds e = hold (lent (e .before)) (tested (e .before) ∙ e .if2 .left)
 
 size-fails : (c : tie.Then1) → badSize (input (c .before .before .before .before .before .before .before .before .before)) ≡ true
 unfolding badSize
@@ -58,7 +65,7 @@ size-fails c = sym (c .before .bad-size .ensures) ∙ c .if1 .taken
 
 lengths-fail : (c : tie.Then2) → tooShort (input (start (c .before .before .before))) ≡ true
 unfolding tooShort
-lengths-fail c = rw (c .before .before .words-for .ensures) at (sym (c .before .flat-short .ensures) ∙ c .if2 .taken)
+lengths-fail c = rw (c .before .before .words-for .ensures) at (tested (c .before) ∙ c .if2 .taken)
 
 bad-size-requires : tie.Need-bad-size-requires
 bad-size-requires c κs = search needs
@@ -70,7 +77,7 @@ words-for-requires : tie.Need-words-for-requires
 words-for-requires c κs = search needs
 
 flat-short-requires : tie.Need-flat-short-requires
-flat-short-requires c κs = (modes-in (c .before) .1, few c)
+flat-short-requires c κs = search needs
 
 returns-2 : tie.Need-returns-2
 returns-2 c = flat-lengths (input (start (c .before .before .before))) (size-passes (c .before .before .before)) (lengths-fail c)

@@ -4,15 +4,17 @@ use native.Mathlib.Nat.{mul-le-mul}
 use native.Mathlib.Omega.{arith}
 use mathlib.Core.Path.{_≡_, sym, _∙_}
 use mathlib.Core.Bool.{false, _||_}
-use mathlib.Core.List.{List, [], _∷_}
+use mathlib.Core.List.{List}
 use lib.ListN.{length}
 use borrow.Author.Tests.{lt-ltb, le-ltb}
-use Rattle.refusal.specs.Table.{Lent, _of_, short}
+use Rattle.refusal.specs.Table.{Lent, short}
 use Rattle.refusal.proofs.Bools.{or-left}
 use Rattle.refusal.proofs.Rooms.{Hold, hold}
 use Rattle.dense_block.specs.Words.{wordsFor}
-use Rattle.ternarytree.specs.Building.{needed, outside, NamedInput, asked}
-use Rattle.ternarytree.proofs.Answers.{inside, named-size, named-lengths, named-qubits, named-task}
+use Rattle.tree_sizes.specs.Sizes.{outside, outputsLent}
+use Rattle.ternarytree.specs.Building.{needed, NamedInput, asked}
+use Rattle.tree_sizes.proofs.SizeLaws.{inside, few-short}
+use Rattle.ternarytree.proofs.Answers.{named-size, named-lengths, named-qubits, named-task}
 use borrow.Author.Needs.{needs}
 use Rattle.ternarytree.proofs.from_name.Statement.{statement}
 use Rattle.ternarytree.proofs.from_name.Tie as tie
@@ -35,17 +37,22 @@ few c = omega (arith, modes-in (c .before) .1, c .words-for .ensures)
 small : (c : tie.After-words-for) → 4 * start (c .before) .args .modes * c .words-for .result ≤ 4096
 small c = let h : 4 * start (c .before) .args .modes ≤ 1024 = omega (arith, modes-in (c .before) .1) in mul-le-mul h (few c)
 
+-- the lengths that were tested
+abbrev lent : tie.After-outputs-short → List Lent
+lent c =
+    let a = start (c .before .before) .args in
+    outputsLent (a .modes) (c .before .words-for .result) (length (a .x .now)) (length (a .z .now)) (length (a .phases .now)) (length (a .vacuum .now)) (length (a .room .now))
+
+tested : (c : tie.After-outputs-short) → short (lent c) ≡ c .outputs-short .result
+tested c =
+    let f = c .before .before in
+    sym (few-short (start f .args .modes) (c .before .words-for .result) (lent c) (modes-in f .1) (few (c .before))) ∙ sym (c .outputs-short .ensures)
+
 lengths-pass : (e : tie.Else2) → let i = input (start (e .before .before .before)) in short (needed (i .n) (wordsFor (i .n)) (i .out)) ≡ false
-lengths-pass e = rw (e .before .before .words-for .ensures) at (sym (e .before .outputs-short .ensures) ∙ e .if2 .left)
+lengths-pass e = rw (e .before .before .words-for .ensures) at (tested (e .before) ∙ e .if2 .left)
 
-abbrev lent : tie.Else2 → List Lent
-lent e =
-    let a = start (e .before .before .before) .args in
-    let w = e .before .before .words-for .result in
-    (2 * a .modes * w of length (a .x .now)) ∷ (2 * a .modes * w of length (a .z .now)) ∷ (2 * a .modes of length (a .phases .now)) ∷ (w of length (a .vacuum .now)) ∷ (4 * a .modes * w of length (a .room .now)) ∷ []
-
-holds : (e : tie.Else2) → Hold (lent e)
-holds e = hold (lent e) (sym (e .before .outputs-short .ensures) ∙ e .if2 .left)
+holds : (e : tie.Else2) → Hold (lent (e .before))
+holds e = hold (lent (e .before)) (tested (e .before) ∙ e .if2 .left)
 
 either-outside-requires : tie.Need-either-outside-requires
 either-outside-requires c κs = search needs
@@ -57,10 +64,10 @@ words-for-requires : tie.Need-words-for-requires
 words-for-requires c κs = search needs
 
 outputs-short-requires : tie.Need-outputs-short-requires
-outputs-short-requires c κs = (modes-in (c .before) .1, few c)
+outputs-short-requires c κs = search needs
 
 returns-2 : tie.Need-returns-2
-returns-2 c = named-lengths (input (start (c .before .before .before))) (size-passes (c .before .before .before)) (rw (c .before .before .words-for .ensures) at (sym (c .before .outputs-short .ensures) ∙ c .if2 .taken))
+returns-2 c = named-lengths (input (start (c .before .before .before))) (size-passes (c .before .before .before)) (rw (c .before .before .words-for .ensures) at (tested (c .before) ∙ c .if2 .taken))
 
 mul-clear : tie.Need-mul-clear
 mul-clear c = record { fits = omega (arith, modes-in (c .before .before .before .before) .1) }

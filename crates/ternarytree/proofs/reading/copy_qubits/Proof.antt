@@ -3,7 +3,7 @@ use Prim.Native.Nat.{ℕ, _-_, _≤_, _<_}
 use native.Mathlib.Omega.{arith}
 use mathlib.Core.Path.{_≡_, refl}
 use lib.ListN.{length, length-set}
-use Rattle.ternarytree.specs.Building.{qubitAt}
+use Rattle.tree_sizes.specs.Sizes.{qubitAt}
 use Rattle.ternarytree.specs.Tables.{nth}
 use Rattle.ternarytree.proofs.Codes.{in-order}
 use borrow.Author.Needs.{needs}

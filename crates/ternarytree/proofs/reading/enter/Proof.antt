@@ -9,7 +9,7 @@ use lib.ListN.{length, length-set}
 use Rattle.refusal.specs.Search.{someBelow}
 use Rattle.refusal.proofs.Bools.{never}
 use Rattle.trees.specs.Flatpacks.{entryIn}
-use Rattle.ternarytree.specs.Building.{qubitAt}
+use Rattle.tree_sizes.specs.Sizes.{qubitAt}
 use Rattle.ternarytree.specs.Tables.{Holds}
 use Rattle.ternarytree.proofs.EntrySteps.{no-entry, entry-mark, no-earlier, twice-at, twice-none}
 use borrow.Author.Needs.{needs}

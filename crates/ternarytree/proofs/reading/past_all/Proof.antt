@@ -4,7 +4,7 @@ use native.Mathlib.Omega.{arith}
 use mathlib.Core.Path.{_≡_, refl}
 use mathlib.Core.Logic.{⊎-elim}
 use Rattle.trees.specs.Flatpacks.{past}
-use Rattle.ternarytree.specs.Building.{qubitAt}
+use Rattle.tree_sizes.specs.Sizes.{qubitAt}
 use Rattle.ternarytree.proofs.EntrySteps.{past-more}
 use borrow.Author.Needs.{needs}
 use Rattle.ternarytree.proofs.reading.past_all.Statement.{statement}

@@ -1,16 +1,16 @@
--- `reaches` meets its contract: no entry before i reaches b.
+-- `tree_sizes::reaches` meets its contract: no entry before i reaches b.
 use Prim.Native.Nat.{ℕ, _-_, _≤_, _<_}
 use native.Mathlib.Omega.{arith}
-use mathlib.Core.Path.{_≡_, sym, ap, _∙_}
+use mathlib.Core.Path.{_≡_, sym}
 use mathlib.Core.Bool.{false}
 use borrow.Author.Count.{below-more}
 use borrow.Author.Tests.{le-leb, lt-leb}
 use lib.Dec.{leb}
 use Rattle.refusal.proofs.Searches.{some-of, none-of}
-use Rattle.ternarytree.specs.Building.{qubitAt, reaches}
+use Rattle.tree_sizes.specs.Sizes.{qubitAt, reaches}
 use borrow.Author.Needs.{needs}
-use Rattle.ternarytree.proofs.reaches.Statement.{statement}
-use Rattle.ternarytree.proofs.reaches.Tie as tie
+use Rattle.tree_sizes.proofs.reaches.Statement.{statement}
+use Rattle.tree_sizes.proofs.reaches.Tie as tie
 
 abbrev Inv-loop : tie.InvT-loop
 Inv-loop entries n b i₀ i = (i ≤ n) × ((j : ℕ) → j < i → leb b (qubitAt entries j) ≡ false)

@@ -1,13 +1,13 @@
--- `unreadable` meets its contract: test by test.
+-- `tree_sizes::unreadable` meets its contract: test by test.
 use mathlib.Core.Path.{_≡_, sym, _∙_}
 use mathlib.Core.Bool.{false}
 use native.Mathlib.Omega.{arith}
 use borrow.Author.Tests.{lt-ltb, le-ltb}
-use Rattle.ternarytree.specs.Building.{unreadable, outside}
-use Rattle.ternarytree.proofs.Answers.{inside}
+use Rattle.tree_sizes.specs.Sizes.{unreadable, outside}
+use Rattle.tree_sizes.proofs.SizeLaws.{inside}
 use borrow.Author.Needs.{needs}
-use Rattle.ternarytree.proofs.unreadable.Statement.{statement}
-use Rattle.ternarytree.proofs.unreadable.Tie as tie
+use Rattle.tree_sizes.proofs.unreadable.Statement.{statement}
+use Rattle.tree_sizes.proofs.unreadable.Tie as tie
 
 in-range : (e : tie.Else1) → outside (e .before .before .before .before .args .n) ≡ false
 in-range e = sym (e .before .outside .ensures) ∙ e .if1 .left
@@ -34,7 +34,7 @@ unfolding unreadable
 returns-3 c = rw (in-range (c .before .before), le-ltb _ _ (c .before .if2 .left), lt-ltb _ _ (c .if3 .taken))
 
 reaches-requires : tie.Need-reaches-requires
-reaches-requires c κs = inside _ (in-range (c .before .before)) .1
+reaches-requires c κs = search needs
 
 returns-4 : tie.Need-returns-4
 unfolding unreadable

@@ -1,8 +1,8 @@
--- `outside` meets its contract: test by test.
+-- `tree_sizes::outside` meets its contract: test by test.
 use borrow.Author.Tests.{eq-eqb, ne-eqb}
-use Rattle.ternarytree.specs.Building.{outside}
-use Rattle.ternarytree.proofs.outside.Statement.{statement}
-use Rattle.ternarytree.proofs.outside.Tie as tie
+use Rattle.tree_sizes.specs.Sizes.{outside}
+use Rattle.tree_sizes.proofs.outside.Statement.{statement}
+use Rattle.tree_sizes.proofs.outside.Tie as tie
 
 returns : tie.Need-returns
 unfolding outside

@@ -1,8 +1,8 @@
--- `bad_qubits` meets its contract: test by test.
+-- `tree_sizes::bad_qubits` meets its contract: test by test.
 use borrow.Author.Tests.{lt-ltb, le-ltb}
 use borrow.Author.Needs.{needs}
-use Rattle.ternarytree.proofs.bad_qubits.Statement.{statement}
-use Rattle.ternarytree.proofs.bad_qubits.Tie as tie
+use Rattle.tree_sizes.proofs.bad_qubits.Statement.{statement}
+use Rattle.tree_sizes.proofs.bad_qubits.Tie as tie
 
 returns : tie.Need-returns
 returns c = rw (lt-ltb _ _ (c .if1 .taken))

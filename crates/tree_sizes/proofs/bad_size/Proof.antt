@@ -1,9 +1,8 @@
--- `bad_size` meets its contract: test by test.
+-- `tree_sizes::bad_size` meets its contract: test by test.
 use mathlib.Core.Path.{sym, _∙_}
-use Rattle.ternarytree.proofs.Answers.{inside}
 use borrow.Author.Needs.{needs}
-use Rattle.ternarytree.proofs.bad_size.Statement.{statement}
-use Rattle.ternarytree.proofs.bad_size.Tie as tie
+use Rattle.tree_sizes.proofs.bad_size.Statement.{statement}
+use Rattle.tree_sizes.proofs.bad_size.Tie as tie
 
 outside-requires : tie.Need-outside-requires
 outside-requires c κs = search needs
@@ -18,7 +17,7 @@ returns-2 : tie.Need-returns-2
 returns-2 c = rw (sym (c .before .before .before .outside .ensures) ∙ c .before .before .if1 .left, sym (c .before .outside2 .ensures) ∙ c .if2 .taken)
 
 reaches-requires : tie.Need-reaches-requires
-reaches-requires c κs = inside _ (sym (c .before .before .before .outside .ensures) ∙ c .before .before .if1 .left) .1
+reaches-requires c κs = search needs
 
 returns-3 : tie.Need-returns-3
 returns-3 c = rw (sym (c .before .before .before .before .outside .ensures) ∙ c .before .before .before .if1 .left, sym (c .before .before .outside2 .ensures) ∙ c .before .if2 .left) (c .reaches .ensures)

@@ -1,8 +1,8 @@
--- `either_outside` meets its contract: one after the other.
+-- `tree_sizes::either_outside` meets its contract: one after the other.
 use mathlib.Core.Path.{sym, _∙_}
 use borrow.Author.Needs.{needs}
-use Rattle.ternarytree.proofs.either_outside.Statement.{statement}
-use Rattle.ternarytree.proofs.either_outside.Tie as tie
+use Rattle.tree_sizes.proofs.either_outside.Statement.{statement}
+use Rattle.tree_sizes.proofs.either_outside.Tie as tie
 
 outside-requires : tie.Need-outside-requires
 outside-requires c κs = search needs
