@@ -12,7 +12,7 @@ ghost use mathlib.Core.Path.{_≡_};
 ghost use mathlib.Core.List.{_∷_};
 ghost use mathlib.Core.Bool.{_||_};
 ghost use lib.Dec.{ltb};
-ghost use Prim.Native.Nat.{_*_};
+ghost use Prim.Native.Nat.{_*_, min};
 ghost use Rattle.refusal.specs.Table.{_of_};
 ghost use Rattle.tree_sizes.specs.Sizes.{outside, qubitAt, reaches, outputsLent, manyOrShort, unreadable};
 
@@ -49,12 +49,19 @@ fn qubit_at(entries: &[usize], i: usize) -> usize
     0
 }
 
-// Whether the qubit of one of n entries is at or above b.
+fn least(a: usize, b: usize) -> usize
+    ensures { λ r. ⌜ r ≡ min a b ⌝ }
+{
+    if a < b { a } else { b }
+}
+
+// Whether the qubit of one of n entries is at or above b. Of the entries past the end one is looked at: their qubits are all 0.
 pub fn reaches(entries: &[usize], n: usize, b: usize) -> bool
     ensures { λ r. ⌜ r ≡ reaches (now (entries .entry)) n b ⌝ }
 {
+    let m = least(n, entries.len() / 4 + 1);
     let mut i = 0;
-    while i < n {
+    while i < m {
         if b <= qubit_at(entries, i) {
             return true;
         }
