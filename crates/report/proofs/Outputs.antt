@@ -4,11 +4,11 @@ use native.Mathlib.Nat.{mul-le-mul-left, mul-le-mul}
 use native.Mathlib.Omega.{arith}
 use mathlib.Core.Path.{_≡_, refl, sym, ap, _∙_, subst, fun-ext}
 use mathlib.Core.List.{List, _∷_, _++_}
-use mathlib.Core.Bool.{Bool, true, false, cond, not, _&&_, _||_}
+use mathlib.Core.Bool.{Bool, true, false, cond, _&&_, _||_}
 use lib.Dec.{eqb, ltb, leb}
 use lib.ListN.{length, getD, take, drop, replicate, length-replicate}
 use lib.Seq.{take-all}
-use borrow.Author.Tests.{leb-true, eqb-false, ltb-true, ltb-false, le-leb, lt-ltb, le-ltb, ne-eqb}
+use borrow.Author.Tests.{leb-true, ltb-true, ltb-false, le-leb, lt-ltb, le-ltb, ne-eqb}
 use Rattle.refusal.specs.declared.Answer.{Answer}
 use Rattle.refusal.specs.declared.Answer.the-variants.{Done, Refused}
 use Rattle.refusal.specs.declared.Refusal.{Refusal}
@@ -24,6 +24,7 @@ use Rattle.trees.specs.Trees.{Tree}
 use Rattle.trees.specs.Flatpacks.{Flatpack, past, flatTree}
 use Rattle.trees.specs.Leaves.{rows}
 use Rattle.tree_sizes.specs.Sizes.{outside, reaches, qubitAt}
+use Rattle.tree_sizes.proofs.SizeLaws.{inside}
 use Rattle.ternarytree.specs.Building.{Input, given, packOf, treeOf, slotAt, badSize, tooShort, badQubits, treeChecks, answer}
 use Rattle.report.specs.declared.reply.Reply.{Reply}
 use Rattle.flatpack_text.specs.Text.{lines, Entry, linesOf, wellFormed, malformed, isEmpty, parse}
@@ -47,11 +48,6 @@ outside-min p = go (ltb p 257) refl
         let m : min p 257 ≡ 257 = omega arith in
         let z : p ≡ 0 → ⊥ = λ e. omega arith in
         rw (m, ne-eqb p 0 z, lt-ltb 256 p (omega arith))
-
--- not outside: 1 to 256
-inside : (k : ℕ) → outside k ≡ false → (0 < k) × (k ≤ 256)
-unfolding outside
-inside k h = let z = eqb-false k 0 (or-left (eqb k 0) (ltb 256 k) h) in (omega arith, ltb-false 256 k (or-right (eqb k 0) (ltb 256 k) h))
 
 -- ---- a line of a refusal has room
 

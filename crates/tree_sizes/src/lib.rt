@@ -1,7 +1,6 @@
 // The tests of sizes and lengths that come before a tree is built. Every public function is total.
 //
-//   outside, either_outside     whether a number is 0 or above 256
-//   reaches                     whether a flatpack qubit is at or above a bound
+//   either_outside              whether one of two numbers is 0 or above 256
 //   bad_size, bad_qubits        whether 1 or 3 refuses a flatpack
 //   outputs_short, flat_short   whether 2 refuses the lengths of a named tree's slices or of a flatpack's
 //   unreadable                  whether the slots of a flatpack cannot be read
@@ -17,7 +16,7 @@ ghost use Rattle.refusal.specs.Table.{_of_};
 ghost use Rattle.tree_sizes.specs.Sizes.{outside, qubitAt, reaches, outputsLent, manyOrShort, unreadable};
 
 // 0 or above 256.
-pub fn outside(k: usize) -> bool
+fn outside(k: usize) -> bool
     ensures { λ r. ⌜ r ≡ outside k ⌝ }
 {
     if k == 0 {
@@ -56,7 +55,7 @@ fn least(a: usize, b: usize) -> usize
 }
 
 // Whether the qubit of one of n entries is at or above b. Of the entries past the end one is looked at: their qubits are all 0.
-pub fn reaches(entries: &[usize], n: usize, b: usize) -> bool
+fn reaches(entries: &[usize], n: usize, b: usize) -> bool
     ensures { λ r. ⌜ r ≡ reaches (now (entries .entry)) n b ⌝ }
 {
     let m = least(n, entries.len() / 4 + 1);
