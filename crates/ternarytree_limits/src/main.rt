@@ -1,117 +1,11 @@
 // Runs the three builders of trees at the limits of what they take, and writes a line for each call: the number handed back, and what is left of the X parts, the Z
 // parts, the phases, the vacuum and the room, all of which held 7 before. Of a named tree it writes how many of them are 0 and how many are still 7.
 
-use refusal::Answer;
+mod tell; // tell.rt: what is written
+
 use trees::Named;
 ghost use Prim.Native.Nat.{_≤_};
 ghost use lib.ListN.{length};
-
-fn wide(x: u8) -> u64 {
-    x as u64
-}
-
-// Writes a blank and a number.
-fn next(k: u64) {
-    io::write_all(1, b" ");
-    io::print_decimal(1, k);
-}
-
-// Writes the words of s, a blank before each.
-fn words(s: &[u64]) {
-    let mut i = 0;
-    while i < s.len() {
-        next(s[i]);
-        i += 1;
-    }
-}
-
-// The same for bytes.
-fn bytes(s: &[u8]) {
-    let mut i = 0;
-    while i < s.len() {
-        next(wide(s[i]));
-        i += 1;
-    }
-}
-
-// How many words of s are v.
-fn count(s: &[u64], v: u64) -> u64
-    ensures { λ r. ⌜ r ≤ length (now (s .entry)) ⌝ }
-{
-    let mut k: u64 = 0;
-    let mut i = 0;
-    while i < s.len() {
-        if s[i] == v {
-            k += 1;
-        }
-        i += 1;
-    }
-    k
-}
-
-// The same for bytes.
-fn count_bytes(s: &[u8], v: u8) -> u64
-    ensures { λ r. ⌜ r ≤ length (now (s .entry)) ⌝ }
-{
-    let mut k: u64 = 0;
-    let mut i = 0;
-    while i < s.len() {
-        if s[i] == v {
-            k += 1;
-        }
-        i += 1;
-    }
-    k
-}
-
-// Writes how many words of s are 0 and how many 7.
-fn counts(s: &[u64]) {
-    next(count(s, 0));
-    next(count(s, 7));
-}
-
-// Starts a line with the call, the case and the number handed back.
-fn head(call: &[u8], case: &[u8], r: Answer) {
-    io::write_all(1, call);
-    io::write_all(1, b", ");
-    io::write_all(1, case);
-    io::write_all(1, b": ");
-    io::print_decimal(1, wide(r.number()));
-}
-
-// Writes the name of a named tree.
-fn name(tree: Named) {
-    match tree {
-        Named::JordanWigner => {
-            io::write_all(1, b"Jordan-Wigner");
-        }
-        Named::Parity => {
-            io::write_all(1, b"parity");
-        }
-        Named::BravyiKitaev => {
-            io::write_all(1, b"Bravyi-Kitaev");
-        }
-        Named::Jkmn => {
-            io::write_all(1, b"JKMN");
-        }
-    }
-}
-
-// Writes how much of each slice is 0 and how much 7.
-fn tally(x: &[u64], z: &[u64], phases: &[u8], vacuum: &[u64], room: &[u64]) {
-    io::write_all(1, b", x");
-    counts(x);
-    io::write_all(1, b", z");
-    counts(z);
-    io::write_all(1, b", phases");
-    next(count_bytes(phases, 0));
-    next(count_bytes(phases, 7));
-    io::write_all(1, b", vacuum");
-    counts(vacuum);
-    io::write_all(1, b", room");
-    counts(room);
-    io::write_all(1, b"\n");
-}
 
 fn named(
     case: &[u8],
@@ -134,9 +28,9 @@ fn named(
         &mut *vacuum,
         &mut *room,
     );
-    name(tree);
-    head(b"", case, r);
-    tally(x, z, phases, vacuum, room);
+    tell::name(tree);
+    tell::head(b"", case, r);
+    tell::tally(x, z, phases, vacuum, room);
 }
 
 // A named tree, with slices that are one longer than 256 modes need.
@@ -189,21 +83,6 @@ fn named_cut(case: &[u8], nx: usize, nz: usize, np: usize, nv: usize, nr: usize)
     );
 }
 
-// Writes what is left after a call.
-fn left(x: &[u64], z: &[u64], phases: &[u8], vacuum: &[u64], room: &[u64]) {
-    io::write_all(1, b", x");
-    words(x);
-    io::write_all(1, b", z");
-    words(z);
-    io::write_all(1, b", phases");
-    bytes(phases);
-    io::write_all(1, b", vacuum");
-    words(vacuum);
-    io::write_all(1, b", room");
-    words(room);
-    io::write_all(1, b"\n");
-}
-
 fn flat(
     case: &[u8],
     modes: usize,
@@ -227,8 +106,8 @@ fn flat(
         &mut *vacuum,
         &mut *room,
     );
-    head(b"leaves", case, r);
-    left(x, z, phases, vacuum, room);
+    tell::head(b"leaves", case, r);
+    tell::left(x, z, phases, vacuum, room);
 }
 
 fn naive(
@@ -254,8 +133,8 @@ fn naive(
         &mut *vacuum,
         &mut *room,
     );
-    head(b"naive", case, r);
-    left(x, z, phases, vacuum, room);
+    tell::head(b"naive", case, r);
+    tell::left(x, z, phases, vacuum, room);
 }
 
 // A flatpack of at most two entries with leaves, in slices that are one longer than two entries need.

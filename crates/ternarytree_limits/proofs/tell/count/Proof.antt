@@ -1,11 +1,11 @@
--- `ternarytree_limits::count_bytes` is safe and ends: no more are counted than were passed.
+-- `tell::count` is safe and ends: no more are counted than were passed.
 use Prim.Native.Nat.{_-_, _≤_}
 use lib.ListN.{length}
 use native.Mathlib.Omega.{arith}
 use mathlib.Core.Logic.{⊎-elim}
 use borrow.Author.Needs.{needs}
-use Rattle.ternarytree_limits.proofs.count_bytes.Statement.{statement}
-use Rattle.ternarytree_limits.proofs.count_bytes.Tie as tie
+use Rattle.ternarytree_limits.proofs.tell.count.Statement.{statement}
+use Rattle.ternarytree_limits.proofs.tell.count.Tie as tie
 
 abbrev Inv-loop : tie.InvT-loop
 Inv-loop s v k₀ i₀ k i = (i ≤ length s) × (k ≤ i)
@@ -15,6 +15,9 @@ abbrev μ-loop : tie.MeasureT-loop
 
 loop-holds : tie.Need-loop-holds Inv-loop μ-loop
 loop-holds c = search needs
+
+mul-if1 : tie.Need-mul-if1 Inv-loop μ-loop
+mul-if1 c = search needs
 
 shared-slice-read-if1 : tie.Need-shared-slice-read-if1 Inv-loop μ-loop
 shared-slice-read-if1 c = search needs
@@ -34,13 +37,14 @@ loop-again c = ⊎-elim (λ w. omega arith) (λ w. omega arith) (c .if1 .came)
 returns : tie.Need-returns Inv-loop μ-loop
 returns c = search needs
 
-pub count-bytes-spec : {M : Type 1} → statement M
-count-bytes-spec =
+pub count-spec : {M : Type 1} → statement M
+count-spec =
     tie.close
     (tie.spec
     Inv-loop
     μ-loop
     loop-holds
+    mul-if1
     shared-slice-read-if1
     add-k
     add-i
