@@ -95,7 +95,7 @@ fn larger(a: u8, b: u8) -> u8
     if a < b { b } else { a }
 }
 
-// Whether one of the first n phases is above 3. None is left out after the first, so that a processor can look at many at a time.
+// Whether one of the first n phases is above 3. It does not stop at the first that is, so that a processor can look at many at once.
 pub fn bad_phase(phases: &[u8], n: usize) -> bool
     ensures { λ r. ⌜ r ≡ someBelow n (λ k. ltb 3 (getD (now (phases .entry)) k 0)) ⌝ }
 {

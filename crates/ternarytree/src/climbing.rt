@@ -23,7 +23,7 @@ pub fn link(parents: &[usize; 256], n: usize, links: &mut [usize; 256])
     }
 }
 
-// The node that n steps up from node i lead to, or the first node on the way that is below i.
+// The node that n steps up from node i lead to, or the first node on the way that has a smaller number than i.
 pub fn climb_up(links: &[usize; 256], n: usize, i: usize) -> usize
     requires { ⌜ (n ≤ 256) × (i < n) × Ways n (now links) ⌝ }
     ensures { λ r. ⌜ (r < n) × ((t : Tree) → Links t n (now (links .entry)) → Hangs t r i × (i ≤ r → r ≡ climb t n i)) ⌝ }

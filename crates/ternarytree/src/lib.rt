@@ -173,7 +173,7 @@ pub fn from_flatpack_naive(
 }
 
 // The first slot of a flatpack that is at fault (4, 5, 6 or 9), with leaves or naive; entries and filled are as from_flatpack takes them. Nowhere if no slot is, if
-// a qubit has two entries, or if the slots cannot be read.
+// a qubit has two entries, or if the slots cannot be read. It is not told the number of qubits, so a flatpack that building refuses by 3 can have such a slot.
 pub fn find_fault(leaves: bool, modes: usize, entries: &[usize], filled: &[bool]) -> Place
     ensures { λ r. ⌜ placed r ≡ faultPlace leaves modes (now (entries .entry)) (now (filled .entry)) ⌝ }
 {
