@@ -111,8 +111,8 @@ RopethistlePhase ropethistle_multiply(size_t columns,
  * X, Y, Z: 5, 6, 4, 9; then 8; then 9 for a missing leaf; then 13, which leaves zeros over rows, phases and vacuum.
  *
  * A flatpack: entries has 4n numbers, entry i being its qubit at 4i and its X, Y and Z slots at 4i + 1, 4i + 2 and 4i + 3; filled has 3n bytes, 0 if the slot 3i + 0, 1 or 2 is
- * empty (its number is then not looked at) and 1 if it is not; any other byte is undefined, as it is of a _Bool. A number that is some entry's qubit is a node. With leaves: m = number - (largest
- * qubit + 1) is X leaf m / 2 if m is even and Y leaf (m - 1) / 2 if it is odd. Naive: it is ignored. */
+ * empty (its number is then not looked at) and any other byte if it is not. A number that is some entry's qubit is a node. With leaves: m = number - (largest qubit + 1) is X leaf m / 2
+ * if m is even and Y leaf (m - 1) / 2 if it is odd. Naive: it is ignored. */
 RopethistleAnswer ropethistle_from_flatpack(size_t modes, size_t qubits,
     const size_t *entries, size_t entries_len, const uint8_t *filled, size_t filled_len,
     uint64_t *x, size_t x_len, uint64_t *z, size_t z_len, uint8_t *phases, size_t phases_len,

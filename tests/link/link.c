@@ -75,6 +75,17 @@ static void trees(void) {
     memset(x, 1, 32);
     a = ropethistle_from_flatpack_naive(2, 2, entries, 8, filled, 6, x, 4, z, 4, p, 4, v, 1, room, 8);
     TEST(a.number == 0 && !memcmp(x, XS, 32));
+    /* any byte but 0 says that a slot is filled */
+    static const uint8_t others[6] = {2, 128, 255, 2, 128, 0};
+    uint8_t *many = memset(lent(1000), 255, 1000);
+    memcpy(many, others, 6);
+    for (int k = 0; k < 4; k++) {
+        memset(x, 1, 32), memset(z, 1, 32), memset(p, 9, 4);
+        const uint8_t *bytes = k < 2 ? memcpy(lent(6), others, 6) : many;
+        a = (k % 2 ? ropethistle_from_flatpack_naive : ropethistle_from_flatpack)(2, 2, entries, 8, bytes, k < 2 ? 6 : 1000, x, 4, z, 4, p, 4, v, 1, room, 8);
+        TEST(a.number == 0 && !memcmp(x, XS, 32) && !memcmp(z, ZS, 32) && !memcmp(p, PS, 4) && v[0] == 0);
+    }
+    TEST(ropethistle_from_flatpack(2, 2, entries, 8, others, 5, x, 4, z, 4, p, 4, v, 1, room, 8).number == 2);
     for (size_t tree = 0; tree < 4; tree++) TEST(ropethistle_from_name(tree, 2, 2, x, 4, z, 4, p, 4, v, 1, room, 8).number == 0);
     memset(x, 1, 32);
     TEST(ropethistle_from_name(4, 2, 2, x, 4, z, 4, p, 4, v, 1, room, 8).number == 1 && x[0] == 0x0101010101010101);
@@ -168,6 +179,24 @@ static void largest(void) {
     }
 }
 
+/* Jordan-Wigner on 256 nodes as a flatpack with leaves: all 768 slots, the last of them empty, as many bytes as needed and more; as the named tree */
+static void whole_chain(void) {
+    size_t n = 256, *entries = lent(4 * n * sizeof *entries);
+    uint8_t *bytes = lent(3 * n), *more = lent(3 * n + 1), *p = lent(2 * n), *named = lent(2 * n);
+    uint64_t *x = words(2048, 7), *z = words(2048, 7), *v = words(4, 7), *room = words(4096, 7), *nx = words(2048, 9), *nz = words(2048, 9);
+    for (size_t i = 0; i < n; i++) {
+        entries[4 * i] = i, entries[4 * i + 1] = n + 2 * i, entries[4 * i + 2] = n + 2 * i + 1, entries[4 * i + 3] = i + 1;
+        bytes[3 * i] = 2, bytes[3 * i + 1] = 128, bytes[3 * i + 2] = i + 1 < n ? 255 : 0;
+    }
+    memcpy(more, bytes, 3 * n), more[3 * n] = 255;
+    TEST(ropethistle_from_name(0, n, n, nx, 2048, nz, 2048, named, 512, v, 4, room, 4096).number == 0);
+    TEST(ropethistle_from_flatpack(n, n, entries, 4 * n, bytes, 3 * n, x, 2048, z, 2048, p, 512, v, 4, room, 4096).number == 0);
+    TEST(!memcmp(x, nx, 2048 * 8) && !memcmp(z, nz, 2048 * 8) && !memcmp(p, named, 512));
+    memset(x, 7, 2048 * 8);
+    TEST(ropethistle_from_flatpack(n, n, entries, 4 * n, more, 3 * n + 1, x, 2048, z, 2048, p, 512, v, 4, room, 4096).number == 0 && !memcmp(x, nx, 2048 * 8));
+    TEST(ropethistle_from_flatpack(n, n, entries, 4 * n, bytes, 3 * n - 1, x, 2048, z, 2048, p, 512, v, 4, room, 4096).number == 2);
+}
+
 int main(void) {
     X = copied(XS, 4), Z = copied(ZS, 4), P = memcpy(lent(4), PS, 4);
     good();
@@ -176,6 +205,7 @@ int main(void) {
     refused();
     lengths();
     largest();
+    whole_chain();
     printf("link.c: %d tests, %d failed\n", tests, failed);
     return failed != 0;
 }

@@ -101,6 +101,21 @@ fn main() {
     assert_eq!(named(4).number, 1);
     assert_eq!(named(0), done);
     assert_eq!((&x[..], &z[..], p, v[0]), (&X[..], &Z[..], P, 0));
+    // a flatpack: any byte but 0 says that a slot is filled
+    let entries = [0usize, 2, 3, 1, 1, 4, 5, 99];
+    for bytes in [[1u8, 1, 1, 1, 1, 0], [2, 2, 2, 2, 2, 0], [128, 255, 2, 1, 128, 0], [255, 255, 255, 255, 255, 0]] {
+        for call in [ropethistle_from_flatpack, ropethistle_from_flatpack_naive] {
+            let (x, z, v) = (lent(&[7; 4]), lent(&[7; 4]), lent(&[7]));
+            let mut p = [7u8; 4];
+            let a = unsafe {
+                call(
+                    2, 2, entries.as_ptr(), 8, bytes.as_ptr(), 6, x.as_mut_ptr(), 4, z.as_mut_ptr(), 4, p.as_mut_ptr(), 4, v.as_mut_ptr(), 1,
+                    room.as_mut_ptr(), 8,
+                )
+            };
+            assert_eq!((a, &x[..], &z[..], p, v[0]), (done, &X[..], &Z[..], P, 0));
+        }
+    }
     let a = unsafe { ropethistle_new(2, 2, X.as_ptr(), 4, Z.as_ptr(), 4, P.as_ptr(), 4, v.as_mut_ptr(), 1, room.as_mut_ptr(), 8) };
     assert_eq!(a, done);
 

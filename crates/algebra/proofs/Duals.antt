@@ -34,6 +34,11 @@ module _ (m : Modes) (v : ℕ) where
   unfolding vacuumRule empty
   vacuum-of h k = all-of (m .n) (λ i. empty m i v) (λ i l. both (h i l) (eq-eqb (dot (e m i) v) (d m i / 2) (k i l)))
 
+-- a mode that has the rows of another is empty in the same states
+pub empty-same : (m o : Modes) (i j s : ℕ) → lo m i ≡ lo o j → hi m i ≡ hi o j → empty m i s ≡ empty o j s
+unfolding empty paired e d
+empty-same m o i j s a b = rw (a, b)
+
 -- X parts agree
 pub agree : (m : Modes) (i : ℕ) → paired m i ≡ true → lo m i .x ≡ hi m i .x
 unfolding paired

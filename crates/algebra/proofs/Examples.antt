@@ -1,18 +1,22 @@
 -- Small cases of the algebra, by computing: the letters X, Y and Z on one column; Jordan-Wigner on three modes, of which all that is claimed of an encoding holds;
 -- parity on two, where the order of the modes shows in the phase.
 use Prim.Native.Nat.{_+_, _-_, _/_, _%_, _^_}
+use native.Mathlib.Omega.{arith}
 use mathlib.Core.Path.{_≡_, refl}
 use mathlib.Core.List.{_∷_, []}
 use mathlib.Core.Bool.{true}
 use lib.Count.{ones, onesIn}
+use lib.IntN.{pos, negsuc}
 use lib.ListN.{getD}
 use Rattle.refusal.specs.Search.{allBelow, someBelow, leastBelow, noPair, firstPair}
 use Rattle.algebra.specs.Rows.{bit, common, dot, Row, state, phase, times, identity, clash}
 use Rattle.algebra.specs.Modes.{Modes, e, d, paired, empty, vacuumRule, commutingPair}
 use Rattle.algebra.specs.Coding.{done, occupy, encodeFrom, encode, found, foreign, seen, decodeFrom, decode}
 use Rattle.algebra.specs.Faithful.{Faithful}
+use Rattle.algebra.specs.Lowering.{lowered, Kills}
 use Rattle.algebra.proofs.Pairs.{majorana-of}
 use Rattle.algebra.proofs.Demand3.{demand-3}
+use Rattle.algebra.proofs.Meaning.{empty-killed}
 
 abbrev X : Row
 X = record { p = 0; x = 1; z = 0 }
@@ -78,6 +82,16 @@ decoded = refl
 no-list : decode jordan-wigner 0 8 ≡ foreign
 unfolding decode decodeFrom seen paired e d dot common ones onesIn
 no-list = refl
+
+-- mode 1 is empty in the state of list 101, so its lowering operator kills that state
+killed : Kills jordan-wigner 1 5
+unfolding empty paired e d dot common ones onesIn
+killed = empty-killed jordan-wigner 1 5 (omega arith) (omega arith) refl
+
+-- and of the state of list 110 it makes -1 times that of list 100: half of -2, with the sign of mode 0, which is occupied
+lowers : lowered jordan-wigner 1 3 1 ≡ record { re = negsuc 1; im = pos 0 }
+unfolding lowered common ones onesIn
+lowers = refl
 
 -- ---- parity on two modes: XZ, YI, XX, XY
 

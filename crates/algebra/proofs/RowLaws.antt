@@ -1,12 +1,13 @@
--- Laws of rows: the product acts as its factors one after the other, it is associative with the identity neutral, and its two orders differ by a sign exactly if
--- the rows anticommute. By the laws of the dot product; a doubled count is known by its parity.
-use Prim.Native.Nat.{ℕ, _+_, _*_, _%_, _^_, _<_}
+-- Laws of rows: the product acts as its factors one after the other, it is associative with the identity neutral, it needs no more columns than they, and its two
+-- orders differ by a sign exactly if the rows anticommute. By the laws of the dot product; a doubled count is known by its parity.
+use Prim.Native.Nat.{ℕ, _+_, _*_, _%_, _<_}
 use native.Mathlib.Nat.{add-comm, mod-add-mod, add-mod-mod}
 use native.Mathlib.Omega.{arith}
 use mathlib.Core.Path.{_≡_, ap, sym}
 use mathlib.Core.Logic.{_↔_, _≢_, _⊎_, inl, inr}
 use lib.Bits.{xor-comm, xor-zero-l, xor-zero-r, xor-lt}
-use Rattle.algebra.specs.Rows.{common, dot, Row, state, phase, times, identity, clash, Anticommute}
+use lib.Pow.{pow-pos}
+use Rattle.algebra.specs.Rows.{common, dot, Row, OnColumns, state, phase, times, identity, clash, Anticommute}
 use Rattle.algebra.proofs.Digits.{zero-or-one, xor-assoc}
 use Rattle.algebra.proofs.Dots.{common-comm, common-zero-r, twice-dot, dot-xor-l, dot-xor-r}
 
@@ -52,12 +53,18 @@ times-identity r h = λ i. record { p = same-p i; x = xor-zero-r (r .x) i; z = x
     same-p : times r identity .p ≡ r .p
     same-p = rw common-zero-r (omega arith)
 
--- a product of rows on q columns is a row on q columns
-pub times-x-below : (q : ℕ) (r s : Row) → r .x < 2 ^ q → s .x < 2 ^ q → times r s .x < 2 ^ q
-times-x-below q r s h k = xor-lt q (r .x) (s .x) h k
+-- ---- on q columns
 
-pub times-z-below : (q : ℕ) (r s : Row) → r .z < 2 ^ q → s .z < 2 ^ q → times r s .z < 2 ^ q
-times-z-below q r s h k = xor-lt q (r .z) (s .z) h k
+pub identity-on : (q : ℕ) → OnColumns q identity
+identity-on q = record { phase-small = omega arith; x-low = pow-pos q; z-low = pow-pos q }
+
+-- a product of rows on q columns is a row on q columns
+pub times-on : (q : ℕ) (r s : Row) → OnColumns q r → OnColumns q s → OnColumns q (times r s)
+times-on q r s h k = record {
+  phase-small = omega arith;
+  x-low = xor-lt q (r .x) (s .x) (h .x-low) (k .x-low);
+  z-low = xor-lt q (r .z) (s .z) (h .z-low) (k .z-low);
+}
 
 -- ---- two rows anticommute exactly if the two orders' phases differ, and then by 2
 

@@ -1,5 +1,5 @@
 -- The algebra of rows i^p X^x Z^z. A bit row is one number, column j being its binary digit j; so are the bits s of a basis state.
-use Prim.Native.Nat.{ℕ, _+_, _*_, _/_, _%_, _^_}
+use Prim.Native.Nat.{ℕ, _+_, _*_, _/_, _%_, _^_, _<_}
 use mathlib.Core.Path.{_≡_}
 use lib.Bits.{bitAnd, bitXor}
 use lib.Count.{ones}
@@ -21,6 +21,12 @@ pub record Row : Type 0 where
   pub p : ℕ
   pub x : ℕ
   pub z : ℕ
+
+-- a row on q columns: p is 0 to 3, and no bit of x or z stands at column q or above
+pub record OnColumns (q : ℕ) (r : Row) : Type 0 where
+  pub phase-small : r .p < 4
+  pub x-low : r .x < 2 ^ q
+  pub z-low : r .z < 2 ^ q
 
 -- on bits s a row gives s xor x with i^(p + 2(z·s))
 abbrev pub state : Row → ℕ → ℕ

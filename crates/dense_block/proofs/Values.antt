@@ -1,6 +1,6 @@
 -- The number that words stand for: its parts by word, and how words and number settle each other. By induction on the words.
 use Prim.Native.Nat.{ℕ, zero, suc, _+_, _-_, _*_, _/_, _%_, _^_, _≤_, _<_}
-use native.Mathlib.Nat.{div-div-eq-div-mul, zero-div, zero-add, add-mul-div-left, mul-assoc}
+use native.Mathlib.Nat.{lt-of-lt-of-le, div-div-eq-div-mul, zero-div, zero-add, add-mul-div-left, mul-assoc}
 use native.Mathlib.Numerals.{add-one}
 use native.Mathlib.Decide.{decLt}
 use native.Mathlib.Omega.{arith}
@@ -9,7 +9,7 @@ use mathlib.Core.List.{List, [], _∷_, _++_}
 use lib.Dec.{lit<}
 use lib.ListN.{length, getD, take, drop, length-take, List·getD-eq-default}
 use lib.Seq.{getD-take, getD-drop, take-at}
-use lib.Pow.{pow-add, pow-pos}
+use lib.Pow.{pow-add, pow-pos, pow-mono}
 use Rattle.dense_block.specs.Words.{value, wordsOf, wordsFor, filled}
 
 -- each word fits 64 bits
@@ -103,6 +103,10 @@ words-hold q = omega arith
 
 pub take-filled : (w v : ℕ) (ws : List ℕ) → take w (filled w v ws) ≡ wordsOf w v
 take-filled w v ws = take-at (wordsOf w v) (drop w ws) w (length-words-of w v)
+
+-- the words that a number of q bits was written to stand for it
+pub written-back : (q v : ℕ) (ws : List ℕ) → v < 2 ^ q → value (take (wordsFor q) (filled (wordsFor q) v ws)) ≡ v
+written-back q v ws h = ap value (take-filled (wordsFor q) v ws) ∙ value-of-words (wordsFor q) v (lt-of-lt-of-le h (pow-mono (words-hold q)))
 
 -- words written in place of the first ones are those of their number
 pub filled-by : (ns ws : List ℕ) (w : ℕ) → length ns ≡ w → Words ns → ns ++ drop w ws ≡ filled w (value ns) ws

@@ -18,7 +18,8 @@ use Rattle.dense_block.proofs.Values.{Words, words-take, filled-by}
 use Rattle.dense_block.proofs.Columns.{bit-value}
 use Rattle.dense_block.proofs.Terms.{words-term}
 use Rattle.elimination.specs.Eliminated.{Eliminated, Substituted}
-use Rattle.elimination.specs.Rooms.{rowAt, fits, zeroAmong, dependentRows, RowsAnswered, Same}
+use Rattle.elimination.specs.Rooms.{rowAt, fits, dependentRows, RowsAnswered}
+use Rattle.elimination.specs.Steps.{zeroAmong, Same}
 use Rattle.elimination.specs.Solving.{leftAt, rightAt, solvingRoom, solvedRows, RowsSolved}
 use Rattle.elimination.proofs.Dependence.{zero-dependent}
 use Rattle.elimination.proofs.RoomLaws.{row-below, zeroed-same}

@@ -13,7 +13,8 @@ use Rattle.refusal.proofs.Searches.{some-of, some-at, none-of, none-at, some-he
 use Rattle.algebra.specs.Choices.{combo}
 use Rattle.algebra.proofs.Digits.{top, top-lt, top-pos, top-below}
 use Rattle.elimination.specs.Eliminated.{Eliminated}
-use Rattle.elimination.specs.Rooms.{dependentAmong, zeroAmong}
+use Rattle.elimination.specs.Rooms.{dependentAmong}
+use Rattle.elimination.specs.Steps.{zeroAmong}
 use Rattle.elimination.proofs.Elimination.{dead-row}
 
 module _ (n k : ℕ) (f g : ℕ → ℕ) (d : Eliminated n k f g k) where

@@ -23,7 +23,8 @@ use Rattle.dense_block.proofs.Alongs.{length-along, value-xors}
 use Rattle.dense_block.proofs.Strays.{below-of, no-strays}
 use Rattle.dense_block.proofs.Terms.{row-within, words-term, length-term, term-at}
 use Rattle.elimination.specs.Eliminated.{Lowest, Swept, Eliminated}
-use Rattle.elimination.specs.Rooms.{rowAt, Added, Same}
+use Rattle.elimination.specs.Rooms.{rowAt}
+use Rattle.elimination.specs.Steps.{Added, Same}
 use Rattle.elimination.proofs.Elimination.{start, step-dead, step-sweep}
 
 -- ---- words added

@@ -1,5 +1,5 @@
 -- The two answers, as the algebra's definitions: rows of X words and then Z words are dependent as the row set is, and equations e_i·v = d_i/2 have the vacuum as
--- their solution. The vacuum is unique, and there is one exactly if a string meets the rule.
+-- their solution. The vacuum is unique, there is one exactly if a string meets the rule, and it is the least string that does.
 use Prim.Native.Nat.{ℕ, zero, suc, _+_, _*_, _/_, _^_, _≤_, _<_}
 use native.Mathlib.Omega.{arith}
 use mathlib.Core.Path.{_≡_, refl, sym, ap, _∙_}
@@ -9,9 +9,9 @@ use lib.Dec.{eqb, ltb}
 use lib.ListN.{length}
 use lib.Pow.{pow-pos, pow-add}
 use borrow.Author.Tests.{eqb-true, eqb-false, eq-eqb, ne-eqb}
-use Rattle.refusal.specs.Search.{Least, none, someBelow}
+use Rattle.refusal.specs.Search.{Least, found, none, someBelow}
 use Rattle.refusal.proofs.Bools.{and-left, and-right}
-use Rattle.refusal.proofs.Searches.{some-of, some-same, none-of, all-at, all-same, not-all, least-none, least-same, Searched, hit, miss, searched}
+use Rattle.refusal.proofs.Searches.{some-of, some-same, none-of, all-at, all-same, not-all, least-none, least-same, Is-least, Searched, hit, miss, searched}
 use Rattle.algebra.specs.Rows.{dot}
 use Rattle.algebra.specs.Modes.{Modes, e, d, paired, empty, vacuumRule}
 use Rattle.algebra.specs.Choices.{combo, dependent}
@@ -120,18 +120,29 @@ module _ (m : Modes) where
         rw h (solution-same (m .n) (e m) (leftAt width ws) (half m) (rightAt width ws) q (64 * width) l (λ i g. rows i g .0) (λ i g. rows i g .1) (λ i g. rows i g .2)
         ∙ sym (paired-vacuum q))
 
-  -- there is a vacuum exactly if a string meets the rule
-  pub solvable-found : (q : ℕ) → solvable m q ≡ isFound (solvedVacuum m q)
-  unfolding solvable
-  solvable-found q = go (searched (2 ^ q) (vacuumRule m))
+  -- what solving comes to: the least string that meets the rule, which is zero in every dependent column; or none, where no string meets it
+  pub data Solved (q : ℕ) : Type 0 where
+    least : (v : ℕ) → Is-least (2 ^ q) (vacuumRule m) v → plain m q v ≡ true → solvedVacuum m q ≡ found v → Solved q
+    unmet : ((v : ℕ) → v < 2 ^ q → vacuumRule m v ≡ false) → solvedVacuum m q ≡ none → Solved q
+
+  pub solving : (q : ℕ) → Solved q
+  solving q = go (searched (2 ^ q) (vacuumRule m))
     where
-      go : Searched (2 ^ q) (vacuumRule m) → someBelow (2 ^ q) (vacuumRule m) ≡ isFound (solvedVacuum m q)
+      go : Searched (2 ^ q) (vacuumRule m) → Solved q
       go (hit v l _) =
           let all = rule-paired v (l .passes) in
           let first = least-plain (m .n) (e m) (half m) q v (rule-solves v (l .passes)) (λ w g. sym (paired-rule all w) ∙ l .first w g) in
-          let one = paired-vacuum all q ∙ solution-found (m .n) (e m) (half m) q v (l .low) (rule-solves v (l .passes)) first in
-          some-of (2 ^ q) (vacuumRule m) v (l .low) (l .passes) ∙ sym (ap isFound one)
-      go (miss f _) = none-of (2 ^ q) (vacuumRule m) f ∙ sym (ap isFound (no-vacuum q f))
+          least v l (plain-modes q v ∙ first) (paired-vacuum all q ∙ solution-found (m .n) (e m) (half m) q v (l .low) (rule-solves v (l .passes)) first)
+      go (miss f _) = unmet f (no-vacuum q f)
+
+  -- there is a vacuum exactly if a string meets the rule
+  pub solvable-found : (q : ℕ) → solvable m q ≡ isFound (solvedVacuum m q)
+  unfolding solvable
+  solvable-found q = go (solving q)
+    where
+      go : Solved q → someBelow (2 ^ q) (vacuumRule m) ≡ isFound (solvedVacuum m q)
+      go (least v l _ one) = some-of (2 ^ q) (vacuumRule m) v (l .low) (l .passes) ∙ sym (ap isFound one)
+      go (unmet f no-one) = none-of (2 ^ q) (vacuumRule m) f ∙ sym (ap isFound no-one)
 
 -- ---- what the two calls tell of a row set
 

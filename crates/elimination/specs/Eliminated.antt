@@ -1,4 +1,4 @@
--- What elimination makes of k rows, each a number, by their first n columns.
+-- For the private functions, and needs no belief: what elimination makes of k rows, each a number, by their first n columns.
 use Prim.Native.Nat.{ℕ, _/_, _%_, _^_, _≤_, _<_}
 use mathlib.Core.Path.{_≡_}
 use mathlib.Core.Bool.{Bool, true, false}

@@ -10,7 +10,8 @@ ghost use Prim.Native.Nat.{ℕ, _+_, _*_, _^_, _<_, _≤_};
 ghost use lib.ListN.{length, getD};
 ghost use Rattle.dense_block.specs.Words.{value, termOf};
 ghost use Rattle.elimination.specs.Eliminated.{Lowest, Swept, Settled, Eliminated, Substituted};
-ghost use Rattle.elimination.specs.Rooms.{rowAt, fits, Added, Same, zeroAmong, RowsAnswered};
+ghost use Rattle.elimination.specs.Rooms.{rowAt, fits, RowsAnswered};
+ghost use Rattle.elimination.specs.Steps.{Added, Same, zeroAmong};
 ghost use Rattle.elimination.specs.Solving.{RowsSolved};
 
 // Whether `rows` rows of `width` words, at most `most` of at most `widest`, lie in a room of `size` words.

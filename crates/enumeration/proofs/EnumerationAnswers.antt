@@ -2,8 +2,7 @@
 use Prim.Native.Nat.{ℕ, zero, suc, _≤_}
 use mathlib.Core.Path.{_≡_, refl, sym, ap, _∙_}
 use mathlib.Core.List.{List, [], _∷_, _++_}
-use mathlib.Core.Bool.{Bool, true, false, not, _||_}
-use borrow.Author.Tests.{le-ltb}
+use mathlib.Core.Bool.{Bool, true, false, _||_}
 use lib.ListN.{length, take, drop}
 use lib.Seq.{length-take-le}
 use Rattle.refusal.specs.declared.Refusal.{Refusal}
@@ -14,20 +13,17 @@ use Rattle.refusal.specs.Numbers.{Paper, bare, paper}
 use Rattle.refusal.specs.Table.{Lent, _of_, short, ifZero, onDone, pastTwo}
 use Rattle.refusal.proofs.Bools.{or-false}
 use Rattle.refusal.proofs.Outcome.{one-outcome, answered-injective, refused-number}
-use Rattle.refusal.proofs.Rooms.{Hold}
+use Rattle.refusal.proofs.Rooms.{long-enough}
 use Rattle.dense_block.specs.Words.{zeroed, copied}
 use Rattle.dense_block.proofs.Alongs.{copied-whole}
-use Rattle.majorana.specs.Sets.{Set, width, badSize, setLent, Fits}
+use Rattle.majorana.specs.Sets.{Set, width, badSize, setLent}
+use Rattle.majorana.specs.Held.{Fits}
 use Rattle.majorana.specs.Checks.{vacuumBad, checkRoom, rowsShort, rowsChecked, RowsChecked}
 use Rattle.majorana.proofs.SetLaws.{in-size, few-words, held-in}
-use Rattle.enumeration.specs.Orders.{permutation, Maps}
-use Rattle.enumeration.specs.Enumerations.{Outs, outs, enumerationShort, enumerationBad, enumerationChecked, Enumerated, Held, Wrote}
+use Rattle.enumeration.specs.Orders.{permutation}
+use Rattle.enumeration.specs.Enumerations.{Outs, outs, enumerationShort, enumerationBad, enumerationChecked, Enumerated}
+use Rattle.enumeration.specs.Lent.{Maps, Held, Wrote}
 use Rattle.enumeration.proofs.OrderLaws.{maps-of}
-
--- slices that hold what is needed of each are not too short
-pub long-enough : (lent : List Lent) → Hold lent → short lent ≡ false
-long-enough [] h = refl
-long-enough ((need of have) ∷ rest) h = rw (le-ltb have need (h .0)) (long-enough rest (h .1))
 
 -- the first words copied from those of another slice
 pub front-copied : (w : ℕ) (old vs new : List ℕ) → w ≤ length old → w ≤ length vs → new ≡ copied (take w old) (take w vs) → new ++ drop w old ≡ take w vs ++ drop w old

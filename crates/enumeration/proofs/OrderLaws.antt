@@ -21,8 +21,10 @@ use Rattle.dense_block.proofs.Values.{Words}
 use Rattle.dense_block.proofs.Columns.{value-put, put-same, put-other}
 use Rattle.dense_block.proofs.Alongs.{copied-whole}
 use Rattle.dense_block.proofs.Terms.{length-term, row-within}
-use Rattle.majorana.specs.Sets.{rowAt, Fits}
-use Rattle.enumeration.specs.Orders.{among, newNumber, permutation, oldRow, joined, enumeratedWords, enumeratedPhases, Maps}
+use Rattle.majorana.specs.Sets.{rowAt}
+use Rattle.majorana.specs.Held.{Fits}
+use Rattle.enumeration.specs.Orders.{among, newNumber, permutation, oldRow, joined, enumeratedWords, enumeratedPhases}
+use Rattle.enumeration.specs.Lent.{Maps}
 
 -- ---- the map
 

@@ -1,5 +1,6 @@
 -- What an enumeration that is done means in the algebra: new mode i has the old rows of mode map[i], each old mode is one of the new ones, the vacuum is the same string, and
--- what held of the old set holds of the new one. So it passes the row check, and demand 3 holds of it.
+-- what held of the old set holds of the new one. So it passes the row check, and demand 3 holds of it. Where it is refused by 10, the pair is that of the row check: the first two
+-- rows that commute.
 use Prim.Native.Nat.{ℕ, _+_, _*_, _/_, _%_, _≤_, _<_}
 use native.Mathlib.Decide.{decLt}
 use native.Mathlib.Omega.{arith}
@@ -10,28 +11,35 @@ use borrow.Author.Tests.{eqb-true, not-false}
 use lib.Dec.{eqb}
 use lib.ListN.{length, getD, take, drop, length-append}
 use lib.Seq.{length-take-le, take-at}
-use Rattle.refusal.specs.declared.Answer.the-variants.{Done}
+use Rattle.refusal.specs.declared.Refusal.the-variants.{Commuting}
+use Rattle.refusal.specs.declared.Answer.the-variants.{Done, Refused}
 use Rattle.refusal.specs.Numbers.{Paper, bare}
 use Rattle.refusal.specs.Search.{Pair}
 use Rattle.refusal.specs.Table.{_gives_, _names_, firstOf, _of_, short}
 use Rattle.refusal.proofs.Bools.{or-left, or-right}
+use Rattle.refusal.proofs.Rooms.{long-enough}
 use Rattle.refusal.proofs.Searches.{some-at, none-at, none-of, all-at, all-of}
 use Rattle.algebra.specs.Modes.{Modes, lo, hi, e, d, paired, empty, vacuumRule, Majorana, commutingPair}
 use Rattle.algebra.specs.Choices.{dependent}
 use Rattle.algebra.specs.Faithful.{Faithful}
+use Rattle.algebra.proofs.Duals.{empty-same}
 use Rattle.algebra.proofs.Pairs.{commuting-none}
 use Rattle.algebra.proofs.Independence.{anticommuting-independent}
 use Rattle.dense_block.specs.Words.{value, strays, termOf}
 use Rattle.majorana.specs.Sets.{Set, given, width, modes, trimmed, bits, badSize, setLent, badRowAt, badRows, badSet}
 use Rattle.majorana.specs.Checks.{vacuumBad, checkRoom, rowsShort, rowsChecked}
-use Rattle.majorana.proofs.Theorems.{Sound, checked-sound, faithful}
-use Rattle.enumeration.specs.Orders.{among, permutation, oldRow, enumeratedWords, enumeratedPhases, Maps}
-use Rattle.enumeration.specs.Enumerations.{Outs, enumerationShort, enumerationBad, enumerationChecked, newWords, newPhases, sameVacuum, Enumerated, Held}
+use Rattle.majorana.specs.Findings.{FirstCommuting}
+use Rattle.majorana.specs.Accepted.{Sound}
+use Rattle.majorana.proofs.Theorems.{checked-sound, faithful}
+use Rattle.majorana.proofs.FindingTheorems.{commuting-first, pair-named}
+use Rattle.enumeration.specs.Orders.{among, permutation, oldRow, enumeratedWords, enumeratedPhases}
+use Rattle.enumeration.specs.Enumerations.{Outs, enumerationShort, enumerationBad, enumerationChecked, newWords, newPhases, sameVacuum, Enumerated}
+use Rattle.enumeration.specs.Lent.{Maps, Held}
 use Rattle.enumeration.proofs.OrderLaws.{numbers-differ, old-row-low, length-enumerated, length-phases, term-enumerated, phase-enumerated, row-enumerated}
 use Rattle.enumeration.proofs.Permutations.{permutation-all}
-use Rattle.enumeration.proofs.EnumerationAnswers.{long-enough, lengths, maps, row-check}
+use Rattle.enumeration.proofs.EnumerationAnswers.{lengths, maps, row-check}
 
--- two rows of the new order that are one row of the old
+-- two rows of the new order that are one row of the old are one row
 pub old-row-apart : (n : ℕ) (ms : List ℕ) → permutation n ms ≡ true → (j k : ℕ) → j < 2 * n → k < 2 * n → oldRow ms j ≡ oldRow ms k → j ≡ k
 old-row-apart n ms h j k a b q = go (decLt (j / 2) (k / 2)) (decLt (k / 2) (j / 2))
   where
@@ -42,11 +50,6 @@ old-row-apart n ms h j k a b q = go (decLt (j / 2) (k / 2)) (decLt (k / 2) (j / 
     go (yes u) v = absurd (numbers-differ n ms h (k / 2) (j / 2) (omega arith) u same)
     go (no u) (yes v) = absurd (numbers-differ n ms h (j / 2) (k / 2) (omega arith) v (sym same))
     go (no u) (no v) = omega (arith, u, v)
-
--- a mode that has the rows of another is empty in the same states
-empty-same : (m o : Modes) (i j v : ℕ) → lo m i ≡ lo o j → hi m i ≡ hi o j → empty m i v ≡ empty o j v
-unfolding empty paired e d
-empty-same m o i j v a b = rw (a, b)
 
 module _ (s : Set) (vs ms : List ℕ) (old new : Outs) (h : Enumerated s vs ms old Done new) where
   -- the set that is written
@@ -183,3 +186,12 @@ module _ (s : Set) (vs ms : List ℕ) (old new : Outs) (h : Enumerated s vs ms o
       long = let f = lengths s vs ms old held .read in
           long-enough (setLent (s .n) (width s) (length (new .xs)) (length (new .zs)) (length (new .ps)) ((width s of length (new .vs)) ∷ (checkRoom s of length room) ∷ []))
           (words (s .xs) (old .xs) (new .xs) (f .x-rows) new-x, (words (s .zs) (old .zs) (new .zs) (f .z-rows) new-z, (phases, (vacuum, (enough, tt)))))
+
+-- ---- refused by 10
+
+pub enumeration-pair : (i j : ℕ) (s : Set) (vs ms : List ℕ) (old new : Outs) → Enumerated s vs ms old (Refused (Commuting i j)) new → FirstCommuting (modes s) i j
+unfolding enumerationChecked
+enumeration-pair i j s vs ms old new h =
+    let m = modes s in
+    commuting-first m i j
+    (pair-named i j (badSize (s .n) (s .q)) (enumerationShort s vs ms old) (enumerationBad s vs ms) false (commutingPair m) (dependent m) (vacuumRule m (bits (s .q) vs)) (h .answer))

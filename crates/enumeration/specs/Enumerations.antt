@@ -2,7 +2,7 @@
 use Prim.Native.Nat.{ℕ, _*_}
 use mathlib.Core.Path.{_≡_}
 use mathlib.Core.List.{List, [], _∷_, _++_}
-use mathlib.Core.Bool.{Bool, false, not, _||_}
+use mathlib.Core.Bool.{Bool, not, _||_}
 use lib.ListN.{length, drop}
 use Rattle.refusal.specs.declared.Answer.{Answer}
 use Rattle.refusal.specs.Numbers.{Paper, answered}
@@ -66,17 +66,3 @@ pub record Enumerated (s : Set) (vs ms : List ℕ) (old : Outs) (r : Answer) (ne
   pub phases : new .ps ≡ onDone (enumerationChecked s vs ms old) (newPhases s ms (old .ps)) (old .ps)
   pub vacuum : new .vs ≡ onDone (enumerationChecked s vs ms old) (sameVacuum s vs (old .vs)) (old .vs)
   pub left : new .room ≡ pastTwo (enumerationChecked s vs ms old) (zeroed (checkRoom s) (old .room)) (old .room)
-
--- ---- for the private functions
-
--- 1 and 2 do not refuse
-pub record Held (s : Set) (vs ms : List ℕ) (old : Outs) : Type 0 where
-  pub size : badSize (s .n) (s .q) ≡ false
-  pub long : enumerationShort s vs ms old ≡ false
-
--- the four outputs written over what they held
-pub record Wrote (s : Set) (vs ms ox oz op ov xs zs ps ws : List ℕ) : Type 0 where
-  pub x-rows : xs ≡ newWords s ms (s .xs) ox
-  pub z-rows : zs ≡ newWords s ms (s .zs) oz
-  pub phases : ps ≡ newPhases s ms op
-  pub vacuum : ws ≡ sameVacuum s vs ov

@@ -1,9 +1,9 @@
 -- Mode enumeration: which map is a permutation, and the rows of the modes in their new order.
-use Prim.Native.Nat.{ℕ, zero, suc, _+_, _*_, _/_, _%_, _≤_, _<_}
+use Prim.Native.Nat.{ℕ, zero, suc, _+_, _*_, _/_, _%_}
 use mathlib.Core.List.{List, [], _∷_, _++_}
 use mathlib.Core.Bool.{Bool, not, _&&_}
 use lib.Dec.{eqb, ltb}
-use lib.ListN.{length, getD}
+use lib.ListN.{getD}
 use Rattle.refusal.specs.Search.{someBelow, allBelow}
 use Rattle.dense_block.specs.Words.{termOf}
 
@@ -37,10 +37,3 @@ enumeratedWords w n ms xs = joined (2 * n) (λ k. termOf w xs (oldRow ms k))
 -- and their phases
 unfoldable pub enumeratedPhases : ℕ → List ℕ → List ℕ → List ℕ
 enumeratedPhases n ms ps = joined (2 * n) (λ k. getD ps (oldRow ms k) 0 ∷ [])
-
--- ---- what the private functions ask of a map that passed the test
-
-pub record Maps (n : ℕ) (ms : List ℕ) : Type 0 where
-  pub few : n ≤ 256
-  pub long : n ≤ length ms
-  pub within : (i : ℕ) → i < n → getD ms i 0 < n

@@ -8,9 +8,10 @@ ghost use Prim.Native.Nat.{_*_, _≤_};
 ghost use lib.ListN.{length};
 ghost use Rattle.refusal.specs.Table.{short};
 ghost use Rattle.dense_block.specs.Words.{wordsFor};
-ghost use Rattle.majorana.specs.Sets.{given, Fits};
-ghost use Rattle.enumeration.specs.Orders.{Maps};
-ghost use Rattle.enumeration.specs.Enumerations.{outs, allLent, Enumerated, Held, Wrote};
+ghost use Rattle.majorana.specs.Sets.{given};
+ghost use Rattle.majorana.specs.Held.{Fits};
+ghost use Rattle.enumeration.specs.Enumerations.{outs, allLent, Enumerated};
+ghost use Rattle.enumeration.specs.Lent.{Maps, Held, Wrote};
 
 // Whether one of the ten slices is too short.
 pub fn too_short(

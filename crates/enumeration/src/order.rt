@@ -5,7 +5,8 @@ ghost use mathlib.Core.List.{_++_};
 ghost use Prim.Native.Nat.{_+_, _*_, _/_, _<_, _≤_};
 ghost use lib.ListN.{length, getD, take, drop};
 ghost use Rattle.dense_block.specs.Words.{value, termOf};
-ghost use Rattle.enumeration.specs.Orders.{permutation, oldRow, enumeratedWords, enumeratedPhases, Maps};
+ghost use Rattle.enumeration.specs.Orders.{permutation, oldRow, enumeratedWords, enumeratedPhases};
+ghost use Rattle.enumeration.specs.Lent.{Maps};
 
 // Whether the first numbers of the map, one for each mode, are a permutation. The numbers met are marked in `met`.
 fn all_new(modes: usize, map: &[usize], met: &mut [u64]) -> bool

@@ -1,2 +1,3 @@
+pub mod FlagLaws
 pub mod Numbers
 pub mod Settled

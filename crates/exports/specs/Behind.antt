@@ -17,7 +17,7 @@ use Rattle.majorana.specs.Codes.{encodedPaper}
 use Rattle.products.specs.Products.{multipliedPaper, realPaper}
 use Rattle.trees.specs.declared.Named.{Named}
 use Rattle.trees.specs.declared.Named.the-variants.{JordanWigner, Parity, BravyiKitaev, Jkmn}
-use Rattle.ternarytree.specs.Building.{NamedInput, NamedBuilt, asked}
+use Rattle.ternarytree.specs.Building.{NamedBuilt, asked}
 use Rattle.exports.specs.declared.told.RopethistleAnswer.{RopethistleAnswer}
 use Rattle.exports.specs.declared.told.RopethistlePhase.{RopethistlePhase}
 use Rattle.exports.specs.declared.told.RopethistleProduct.{RopethistleProduct}
@@ -28,6 +28,11 @@ pub record Tells {A C : Type 0} (told : A → C) (P : A → Type 0) (r : C) : Ty
   pub behind : A
   pub stands : r ≡ told behind
   pub holds : P behind
+
+-- a contract leaves one outcome. P e is that of the call behind, e being what the slices lent for writing hold at exit: two structs that tell of it, with what is left in the
+-- slices, are equal
+abbrev pub OneOutcome : {A C E : Type 0} → (A → C) → (E → A → Type 0) → Type 0
+OneOutcome {A} {C} {E} told P = (d e : E) (r s : C) → Tells told (P d) r → Tells told (P e) s → (d ≡ e) × (r ≡ s)
 
 -- the number of a refusal, and the pair of 10
 abbrev pub refusalTold : Refusal → RopethistleAnswer

@@ -3,7 +3,8 @@
 // Each exported function hands its arguments to the call behind it and the numbers of its answer back, and promises what that call promises. A slice comes as a
 // pointer and then a length.
 
-mod told;
+mod flags; // flags.rt: which slots of a flatpack are filled, from bytes
+mod told; // told.rt: answers as structs of numbers
 
 use pauli::Coefficient;
 use pauli::Phase;
@@ -25,6 +26,7 @@ ghost use Rattle.maxnto.specs.Call as maxnto;
 ghost use mathlib.Core.Bool.{true, false};
 ghost use Rattle.ternarytree.specs.Building as trees;
 ghost use Rattle.refusal.specs.Numbers.{answered};
+ghost use Rattle.exports.specs.Flags.{flags};
 ghost use Rattle.exports.specs.Behind.{Tells, answerTold, encodedTold, productTold, multipliedTold, realTold, slices, NumberBuilt};
 
 // majorana::check_vacuum
@@ -216,26 +218,28 @@ pub extern "C" fn ropethistle_multiply(
     told::product(pauli::multiply(columns, l, lx, lz, r, rx, rz, ox, oz))
 }
 
-// ternarytree::from_flatpack
+// ternarytree::from_flatpack, a slot being filled unless its byte is 0.
 #[no_mangle]
 pub extern "C" fn ropethistle_from_flatpack(
     modes: usize,
     qubits: usize,
     entries: &[usize],
-    filled: &[bool],
+    filled: &[u8],
     x: &mut [u64],
     z: &mut [u64],
     phases: &mut [u8],
     vacuum: &mut [u64],
     room: &mut [u64],
 ) -> RopethistleAnswer
-    ensures { λ r. ⌜ Tells answerTold (λ a. trees.FlatBuilt (trees.given true modes qubits (now (entries .entry)) (now (filled .entry)) (now (x .entry)) (now (z .entry)) (now (phases .entry)) (now (vacuum .entry)) (now (room .entry))) a (now (x .exit)) (now (z .exit)) (now (phases .exit)) (now (vacuum .exit)) (now (room .exit))) r ⌝ }
+    ensures { λ r. ⌜ Tells answerTold (λ a. trees.FlatBuilt (trees.given true modes qubits (now (entries .entry)) (flags modes (now (filled .entry))) (now (x .entry)) (now (z .entry)) (now (phases .entry)) (now (vacuum .entry)) (now (room .entry))) a (now (x .exit)) (now (z .exit)) (now (phases .exit)) (now (vacuum .exit)) (now (room .exit))) r ⌝ }
 {
+    let mut set = [false; 768];
+    let n = flags::read(modes, filled, &mut set);
     told::answer(ternarytree::from_flatpack(
         modes,
         qubits,
         entries,
-        filled,
+        &set[..n],
         x,
         z,
         phases,
@@ -244,26 +248,28 @@ pub extern "C" fn ropethistle_from_flatpack(
     ))
 }
 
-// ternarytree::from_flatpack_naive
+// ternarytree::from_flatpack_naive, likewise.
 #[no_mangle]
 pub extern "C" fn ropethistle_from_flatpack_naive(
     modes: usize,
     qubits: usize,
     entries: &[usize],
-    filled: &[bool],
+    filled: &[u8],
     x: &mut [u64],
     z: &mut [u64],
     phases: &mut [u8],
     vacuum: &mut [u64],
     room: &mut [u64],
 ) -> RopethistleAnswer
-    ensures { λ r. ⌜ Tells answerTold (λ a. trees.FlatBuilt (trees.given false modes qubits (now (entries .entry)) (now (filled .entry)) (now (x .entry)) (now (z .entry)) (now (phases .entry)) (now (vacuum .entry)) (now (room .entry))) a (now (x .exit)) (now (z .exit)) (now (phases .exit)) (now (vacuum .exit)) (now (room .exit))) r ⌝ }
+    ensures { λ r. ⌜ Tells answerTold (λ a. trees.FlatBuilt (trees.given false modes qubits (now (entries .entry)) (flags modes (now (filled .entry))) (now (x .entry)) (now (z .entry)) (now (phases .entry)) (now (vacuum .entry)) (now (room .entry))) a (now (x .exit)) (now (z .exit)) (now (phases .exit)) (now (vacuum .exit)) (now (room .exit))) r ⌝ }
 {
+    let mut set = [false; 768];
+    let n = flags::read(modes, filled, &mut set);
     told::answer(ternarytree::from_flatpack_naive(
         modes,
         qubits,
         entries,
-        filled,
+        &set[..n],
         x,
         z,
         phases,

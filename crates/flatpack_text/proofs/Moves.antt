@@ -9,7 +9,8 @@ use Rattle.flatpack_text.specs.declared.read.Field.{Field}
 use Rattle.flatpack_text.specs.declared.read.Field.the-variants.{Nothing, Dash, Number, Bad}
 use Rattle.flatpack_text.specs.declared.read.State.{State}
 use Rattle.flatpack_text.specs.Text.{putFirst, cut, decimal, isNumber, isDash, fieldOf, Slot, empty, numbered, asQubit, asSlot, Entry, Line, entry, noEntry, lineOf}
-use Rattle.flatpack_text.specs.Machine.{Told, slotNumber, stopped, onLine, lineAfter, more, next, tabbedAt, tabbed, atLast, lineEnded, keptAt, lineKept, endedAt, finished}
+use Rattle.flatpack_text.specs.Machine.{Told, slotNumber, stopped, onLine, lineAfter}
+use Rattle.flatpack_text.specs.Moves.{more, next, tabbedAt, tabbed, atLast, lineEnded, keptAt, lineKept, endedAt, finished}
 use Rattle.flatpack_text.proofs.Numbers.{field-more}
 
 -- ---- two readings of one field that agree on each case

@@ -10,7 +10,7 @@ use borrow.Author.Tests.{eqb-true, eqb-false, leb-true, le-leb, lt-ltb}
 use Rattle.refusal.proofs.Bools.{and-left, and-right, never}
 use Rattle.flatpack_text.specs.declared.read.Field.the-variants.{Dash, Number, Bad}
 use Rattle.flatpack_text.specs.Text.{isDigit, allDigits, leadingZero, decimalFrom, decimal, isNumber, isDash, fieldOf}
-use Rattle.flatpack_text.specs.Machine.{next}
+use Rattle.flatpack_text.specs.Moves.{next}
 
 pub digit-low : (b : ℕ) → isDigit b ≡ true → 48 ≤ b
 unfolding isDigit

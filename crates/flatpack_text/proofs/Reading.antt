@@ -13,7 +13,9 @@ use Rattle.flatpack_text.specs.declared.read.State.{State}
 use Rattle.flatpack_text.specs.declared.read.Text.{Text}
 use Rattle.flatpack_text.specs.declared.read.Text.the-variants.{Entries, Malformed}
 use Rattle.flatpack_text.specs.Text.{Cut, cut, lines, fields, fieldOf, Entry, Line, entry, noEntry, lineOf, Lines, withLine, linesOf, judged, parse}
-use Rattle.flatpack_text.specs.Machine.{most, Told, textPaper, told, slotNumber, numbersOf, kept, stopped, lineAfter, after, more, next, tabbed, lineEnded, keptAt, lineKept, step, stepKept, fed, fedKept, finished, Feeds, Finishes}
+use Rattle.flatpack_text.specs.Machine.{most, Told, textPaper, told, slotNumber, numbersOf, kept, stopped, lineAfter, after}
+use Rattle.flatpack_text.specs.Moves.{more, next, tabbed, lineEnded, keptAt, lineKept, step, stepKept, fed, fedKept, finished}
+use Rattle.flatpack_text.specs.Calls.{Feeds, Finishes}
 use lib.Seq.{drop-cons, sets, length-sets}
 use Rattle.flatpack_text.proofs.Tables.{copied-nil, table-more}
 use Rattle.flatpack_text.proofs.Cuts.{closed, longer, cut-closed, cut-longer}

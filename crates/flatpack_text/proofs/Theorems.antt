@@ -3,16 +3,32 @@
 -- In plain words: a text that is handed over in chunks, of any number and any lengths, one after another from `start`, is read as if it were lent whole. `finish` answers
 -- what the definition of well-formed text (specs/Text.antt) says of the chunks joined, and the table holds the entries that the definition says: `chunks-read`. How a
 -- text is cut into chunks makes no difference: `chunks-any`. A line that is no entry makes the text malformed wherever it stands, and so does a byte after the last line
--- feed: `bad-line-anywhere`, `bad-end`. Below, a call is its contract: `Feeds`, `Finishes` and `Reads` of specs/Machine.antt.
+-- feed: `bad-line-anywhere`, `bad-end`. No input leaves a call two outcomes: `feed-outcome`, `finish-outcome`, `read-outcome`. Below, a call is its contract: `Feeds`, `Finishes`
+-- and `Reads` of specs/Calls.antt.
 use Prim.Native.Nat.{ℕ}
 use mathlib.Core.Path.{_≡_, refl, sym, ap, _∙_}
 use mathlib.Core.List.{List, [], _∷_, _++_, append-nil, append-assoc}
 use mathlib.Core.Bool.{Bool, true, false}
+use Rattle.refusal.proofs.Outcome.{one-outcome}
 use Rattle.flatpack_text.specs.declared.read.State.{State}
 use Rattle.flatpack_text.specs.declared.read.Text.{Text}
 use Rattle.flatpack_text.specs.Text.{lines, fields, Entry, Line, entry, noEntry, lineOf, Lines, withLine, linesOf, judged, parse}
-use Rattle.flatpack_text.specs.Machine.{told, kept, after, Feeds, Finishes, Reads}
+use Rattle.flatpack_text.specs.Machine.{told, kept, after}
+use Rattle.flatpack_text.specs.Calls.{Feeds, Finishes, Reads}
 use Rattle.flatpack_text.proofs.Reading.{start-kept, answer-is}
+
+-- ---- one outcome is left
+
+pub feed-outcome : {s r q : State} {u d e f : List ℕ} → Feeds s u d r e → Feeds s u d q f → (r ≡ q) × (e ≡ f)
+feed-outcome a b = (one-outcome (a .state) (b .state), one-outcome (a .entries) (b .entries))
+
+pub finish-outcome : {s : State} {a b : Text} → Finishes s a → Finishes s b → a ≡ b
+finish-outcome {s} {a} {b} f g = answer-is a b (one-outcome (f .answer) (g .answer))
+
+pub read-outcome : {t d e f : List ℕ} {a b : Text} → Reads t d a e → Reads t d b f → (a ≡ b) × (e ≡ f)
+read-outcome {t} {d} {e} {f} {a} {b} x y = (answer-is a b (one-outcome (x .answer) (y .answer)), one-outcome (x .entries) (y .entries))
+
+-- ---- chunks
 
 -- the chunks of a text, joined
 abbrev pub joined : List (List ℕ) → List ℕ

@@ -7,7 +7,9 @@ use crate::puts::put;
 ghost use mathlib.Core.Path.{_≡_};
 ghost use mathlib.Core.List.{[]};
 ghost use Rattle.flatpack_text.specs.Text.{isDigit, asQubit, asSlot};
-ghost use Rattle.flatpack_text.specs.Machine.{slotNumber, stopped, onLine, after, more, next, tabbed, lineEnded, keptAt, lineKept, step, stepKept, Feeds, Finishes, Reads};
+ghost use Rattle.flatpack_text.specs.Machine.{slotNumber, stopped, onLine, after};
+ghost use Rattle.flatpack_text.specs.Moves.{more, next, tabbed, lineEnded, keptAt, lineKept, step, stepKept};
+ghost use Rattle.flatpack_text.specs.Calls.{Feeds, Finishes, Reads};
 
 // What is read of a field.
 pub enum Field {

@@ -4,16 +4,16 @@ use mathlib.Core.Path.{_≡_, refl}
 use mathlib.Core.List.{List, [], _∷_}
 use lib.Count.{ones, onesIn}
 use Rattle.refusal.specs.declared.Answer.the-variants.{Done as Fine, Refused as No}
-use Rattle.refusal.specs.declared.Refusal.the-variants.{Undecodable, Unencodable}
+use Rattle.refusal.specs.declared.Refusal.the-variants.{Commuting, Undecodable, Unencodable}
 use Rattle.refusal.specs.Numbers.{Paper, bare}
-use Rattle.refusal.specs.Search.{someBelow, allBelow}
-use Rattle.algebra.specs.Rows.{bit, common, dot}
-use Rattle.algebra.specs.Modes.{vacuumRule, e, d, paired, empty}
+use Rattle.refusal.specs.Search.{someBelow, allBelow, leastBelow, firstPair}
+use Rattle.algebra.specs.Rows.{bit, common, dot, clash}
+use Rattle.algebra.specs.Modes.{vacuumRule, commutingPair, e, d, paired, empty}
 use Rattle.algebra.specs.Coding as algebra
 use Rattle.dense_block.specs.Words.{strays}
 use Rattle.majorana.specs.declared.Encoded.the-variants.{Done, Refused}
 use Rattle.majorana.specs.Sets.{Set, given, badSize, badRowAt, badRows}
-use Rattle.majorana.specs.Checks.{vacuumShort, vacuumBad, vacuumChecked}
+use Rattle.majorana.specs.Checks.{vacuumShort, vacuumBad, vacuumChecked, rowsShort, rowsChecked, RowsChecked}
 use Rattle.majorana.specs.Codes.{encoded, encodeShort, encodeBad, encodeRefused, Encodes, decoded, decodeShort, decodeBad, decodeRefused, Decodes}
 
 -- one mode, rows XI and YI
@@ -64,6 +64,13 @@ vacuum-rule : (vacuumChecked (one 0 1) (1 ∷ []) ≡ bare 13) × (vacuumChecked
     × (vacuumChecked (given 1 2 (1 ∷ 2 ∷ []) (0 ∷ 1 ∷ []) (0 ∷ 1 ∷ [])) zeros ≡ bare 13)
 unfolding vacuumChecked vacuumShort vacuumBad badSize badRows badRowAt strays someBelow vacuumRule allBelow empty paired e d dot common ones onesIn
 vacuum-rule = (refl, refl, refl, refl, refl, refl)
+
+-- ---- check_rows
+
+-- rows XI, YI, ZX, YI: row 0 anticommutes with all, row 1 with row 2 and not with row 3. The room is zero over its eight words
+rows-pair : RowsChecked (given 2 2 (1 ∷ 1 ∷ 2 ∷ 1 ∷ []) (0 ∷ 1 ∷ 1 ∷ 1 ∷ []) (0 ∷ 1 ∷ 0 ∷ 1 ∷ [])) zeros (9 ∷ 9 ∷ 9 ∷ 9 ∷ 9 ∷ 9 ∷ 9 ∷ 9 ∷ 7 ∷ []) (No (Commuting 1 3)) (0 ∷ 0 ∷ 0 ∷ 0 ∷ 0 ∷ 0 ∷ 0 ∷ 0 ∷ 7 ∷ [])
+unfolding rowsChecked rowsShort vacuumBad badSize badRows badRowAt strays commutingPair firstPair leastBelow someBelow clash common ones onesIn
+rows-pair = record { answer = refl; left = refl }
 
 -- ---- try_encode
 

@@ -1,4 +1,4 @@
--- The row check: which test refuses, what it leaves in the room, and one outcome.
+-- The row check: which test refuses, what it leaves in the room, and one outcome; and one outcome of the vacuum check.
 use Prim.Native.Nat.{ℕ, _+_, _*_}
 use native.Mathlib.Nat.{add-mul, mul-add}
 use native.Mathlib.Omega.{arith}
@@ -19,7 +19,7 @@ use Rattle.algebra.specs.Choices.{dependent}
 use Rattle.dense_block.specs.Words.{zeroed}
 use Rattle.dense_block.proofs.Clears.{zeroed-same}
 use Rattle.majorana.specs.Sets.{Set, modes, bits, badSize}
-use Rattle.majorana.specs.Checks.{vacuumBad, checkRoom, rowsShort, rowsChecked, RowsChecked}
+use Rattle.majorana.specs.Checks.{vacuumBad, vacuumChecked, checkRoom, rowsShort, rowsChecked, RowsChecked}
 use Rattle.majorana.specs.Rooms.{Same, taskChecked, valueChecked}
 
 -- 4n rows of w words are 2n of twice as many
@@ -70,3 +70,6 @@ module _ (s : Set) (vs room : List ℕ) where
 
 pub rows-outcome : (s : Set) (vs room : List ℕ) (r t : Answer) (xs ys : List ℕ) → RowsChecked s vs room r xs → RowsChecked s vs room t ys → (r ≡ t) × (xs ≡ ys)
 rows-outcome s vs room r t xs ys a b = (answered-injective (one-outcome (a .answer) (b .answer)), one-outcome (a .left) (b .left))
+
+pub vacuum-outcome : (s : Set) (vs : List ℕ) (r t : Answer) → answered r ≡ vacuumChecked s vs → answered t ≡ vacuumChecked s vs → r ≡ t
+vacuum-outcome s vs r t a b = answered-injective (one-outcome a b)

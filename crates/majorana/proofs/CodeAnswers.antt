@@ -18,7 +18,8 @@ use Rattle.pauli.specs.declared.Phase.{Phase}
 use Rattle.majorana.specs.declared.Encoded.{Encoded}
 use Rattle.majorana.specs.declared.Encoded.the-variants.{Done, Refused}
 use Rattle.majorana.specs.Sets.{Set, width, badSize}
-use Rattle.majorana.specs.Codes.{encoded, unencodable, stateOf, phaseOf, encodeShort, encodeBad, encodeRefused, Told, encodedPaper, Encodes, decoded, undecodable, listOf, decodeShort, decodeBad, decodeRefused, Decodes, kept, readOff, ran, ranOut, ranList}
+use Rattle.majorana.specs.Codes.{encoded, unencodable, stateOf, phaseOf, encodeShort, encodeBad, encodeRefused, Told, encodedPaper, Encodes, decoded, undecodable, listOf, decodeShort, decodeBad, decodeRefused, Decodes}
+use Rattle.majorana.specs.Runs.{kept, readOff, ran, ranOut, ranList}
 
 -- ---- what a run of words comes to
 

@@ -13,7 +13,7 @@ use Rattle.algebra.specs.Coding.{when, Encoded, done, refused, occupy, encodeFr
 use Rattle.algebra.proofs.Digits.{bit-lt}
 use Rattle.algebra.proofs.Operators.{encode-refused}
 use Rattle.dense_block.specs.Words.{putBit}
-use Rattle.majorana.specs.Codes.{readOff}
+use Rattle.majorana.specs.Runs.{readOff}
 
 -- ---- encoding
 

@@ -1,5 +1,6 @@
 pub mod Theorems
 pub mod NewTheorems
+pub mod FindingTheorems
 pub mod Cases
 pub mod SetLaws
 pub mod ModeLaws

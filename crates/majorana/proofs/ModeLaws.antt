@@ -15,7 +15,8 @@ use Rattle.dense_block.proofs.Alikes.{alike-value}
 use Rattle.dense_block.proofs.Alongs.{value-xors}
 use Rattle.dense_block.proofs.Terms.{words-term, length-term}
 use Rattle.pauli.proofs.Products.{sign-of}
-use Rattle.majorana.specs.Sets.{modesAt, Held}
+use Rattle.majorana.specs.Sets.{modesAt}
+use Rattle.majorana.specs.Held.{Held}
 use Rattle.majorana.proofs.SetLaws.{x-row, z-row}
 
 -- ---- parities

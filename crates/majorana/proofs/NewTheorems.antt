@@ -1,42 +1,33 @@
 -- What `new` promises: a row set that it answers done on is sound with the vacuum that it wrote, so demand 3 holds of it; and it answers done on every set of rows that
--- anticommute in pairs, with X parts alike and every d even. By the laws of the algebra: such rows have a vacuum, and are independent.
-use Prim.Native.Nat.{ℕ, _*_, _^_, _<_}
-use native.Mathlib.Nat.{lt-of-lt-of-le}
+-- anticommute in pairs, with X parts alike and every d even. By the laws of the algebra: such rows have a vacuum, and are independent. A vacuum that is found meets the rule, so
+-- 13 never comes from `new`.
+use Prim.Native.Nat.{ℕ, _*_, _<_}
 use native.Mathlib.Omega.{arith}
 use mathlib.Core.Path.{_≡_, refl, sym, ap, _∙_}
 use mathlib.Core.List.{List, [], _∷_}
-use mathlib.Core.Bool.{Bool, true, false, not, _&&_}
-use lib.Pow.{pow-mono}
+use mathlib.Core.Bool.{Bool, true, false, not}
 use Rattle.refusal.specs.declared.Answer.{Answer}
 use Rattle.refusal.specs.Numbers.{Paper, bare, answered}
-use Rattle.refusal.specs.Search.{Least, found, none, leastBelow, Pair, pair, noPair}
+use Rattle.refusal.specs.Search.{found, Pair, pair, noPair}
 use Rattle.refusal.specs.Table.{_gives_, _names_, firstOf, onDone}
-use Rattle.refusal.proofs.Bools.{and-left}
-use Rattle.refusal.proofs.Searches.{least-found}
-use Rattle.algebra.specs.Modes.{Modes, Majorana, paired, vacuumRule, commutingPair}
+use Rattle.algebra.specs.Modes.{Majorana, paired, vacuumRule, commutingPair}
 use Rattle.algebra.specs.Choices.{dependent}
-use Rattle.algebra.specs.Solving.{plain, solvable, solvedVacuum}
+use Rattle.algebra.specs.Solving.{solvable}
 use Rattle.algebra.proofs.Pairs.{majorana-of, commuting-none}
 use Rattle.algebra.proofs.Independence.{anticommuting-independent}
 use Rattle.algebra.proofs.Existence.{vacuum-exists}
-use Rattle.dense_block.specs.Words.{value, filled}
-use Rattle.dense_block.proofs.Values.{value-of-words, words-hold, take-filled}
+use Rattle.dense_block.specs.Words.{filled}
 use Rattle.dense_block.proofs.Strays.{no-strays}
-use Rattle.elimination.specs.Solving.{isFound}
-use Rattle.elimination.proofs.Vacuums.{solvable-found}
 use Rattle.majorana.specs.Sets.{Set, width, modes, trimmed, bits, badSize, badSet}
 use Rattle.majorana.specs.Checks.{vacuumBad, rowsShort}
-use Rattle.majorana.specs.Vacuums.{vacuumOf, vacuum, newChecked, Makes}
+use Rattle.majorana.specs.Vacuums.{vacuum, newChecked, Makes}
+use Rattle.majorana.specs.Accepted.{Sound}
+use Rattle.dense_block.proofs.Values.{written-back}
 use Rattle.majorana.proofs.SetLaws.{x-below}
 use Rattle.majorana.proofs.VacuumLaws.{vacuum-low}
-use Rattle.majorana.proofs.Theorems.{Sound}
+use Rattle.majorana.proofs.FindingTheorems.{found-least}
 
 -- ---- done: the set is sound with the vacuum that is written
-
-written-bits : (s : Set) (vs : List ℕ) → bits (s .q) (filled (width s) (vacuum (modes s) (s .q)) vs) ≡ vacuum (modes s) (s .q)
-written-bits s vs =
-    let v = vacuum (modes s) (s .q) in
-    ap value (take-filled (width s) v vs) ∙ value-of-words (width s) v (lt-of-lt-of-le (vacuum-low (modes s) (s .q)) (pow-mono (words-hold (s .q))))
 
 pub new-sound : (s : Set) (vs room : List ℕ) (r : Answer) (after left : List ℕ) → Makes s vs room r after left → answered r ≡ bare 0 → Sound s after
 unfolding newChecked vacuumBad
@@ -45,7 +36,7 @@ new-sound s vs room r after left made h =
     let p : newChecked s vs room ≡ bare 0 = sym (made .answer) ∙ h in
     let t = go (badSize (s .n) (s .q)) (rowsShort s vs room) (badSet s) (solvable (modes s) (s .q)) (commutingPair (modes s)) (dependent (modes s)) (vacuumRule (modes s) v) (ap (λ (p : Paper). p .number) p) in
     let e : after ≡ filled (width s) v vs = made .string ∙ ap (λ (p : Paper). onDone p (filled (width s) v vs) vs) p in
-    let b : bits (s .q) after ≡ v = ap (bits (s .q)) e ∙ written-bits s vs in
+    let b : bits (s .q) after ≡ v = ap (bits (s .q)) e ∙ written-back (s .q) v vs (vacuum-low (modes s) (s .q)) in
     record {
       size = t .0;
       good = rw (t .1) (no-strays (trimmed (s .q) after) (s .q) (rw b (vacuum-low (modes s) (s .q))));
@@ -67,18 +58,9 @@ new-sound s vs room r after left made h =
 
 -- ---- rows that anticommute, with X parts alike and every d even: done
 
--- a vacuum that is found meets the rule, so 13 never comes from `new`
-solved-rule : (m : Modes) (q : ℕ) → solvable m q ≡ true → vacuumRule m (vacuum m q) ≡ true
-unfolding vacuum solvedVacuum
-solved-rule m q h = go (leastBelow (2 ^ q) (λ v. vacuumRule m v && plain m q v)) refl (sym (solvable-found m q) ∙ h)
-  where
-    go : (l : Least) → leastBelow (2 ^ q) (λ v. vacuumRule m v && plain m q v) ≡ l → isFound (leastBelow (2 ^ q) (λ v. vacuumRule m v && plain m q v)) ≡ true → vacuumRule m (vacuumOf (leastBelow (2 ^ q) (λ v. vacuumRule m v && plain m q v))) ≡ true
-    go (found v) e k = rw e (and-left (vacuumRule m v) (plain m q v) (least-found (2 ^ q) (λ v. vacuumRule m v && plain m q v) v e .passes))
-    go none e k = let f : false ≡ true = sym (ap isFound e) ∙ k in cc
-
 pub new-always : (s : Set) (vs room : List ℕ) → badSize (s .n) (s .q) ≡ false → rowsShort s vs room ≡ false → badSet s ≡ false
     → Majorana (modes s) → ((i : ℕ) → i < s .n → paired (modes s) i ≡ true) → newChecked s vs room ≡ bare 0
 unfolding newChecked
 new-always s vs room size long good rows pairs =
     let some = vacuum-exists (modes s) (s .q) rows pairs (λ i h. x-below (s .n) (s .q) (width s) (s .xs) (s .zs) (s .ps) good (2 * i) (omega arith)) in
-    rw (size, long, good, some, commuting-none (modes s) rows, anticommuting-independent (modes s) rows, solved-rule (modes s) (s .q) some)
+    rw (size, long, good, some, commuting-none (modes s) rows, anticommuting-independent (modes s) rows, found-least (modes s) (s .q) some .rule)

@@ -1,4 +1,4 @@
--- Rows that lie in their slices, and what the tests that every call shares leave known.
+-- Rows that lie in their slices, what the tests that every call shares leave known, and what written words stand for.
 use Prim.Native.Nat.{ℕ, zero, suc, _+_, _*_, _^_, _≤_, _<_}
 use native.Mathlib.Omega.{arith}
 use mathlib.Core.Path.{_≡_, refl, sym, ap, _∙_}
@@ -15,7 +15,8 @@ use Rattle.refusal.proofs.Searches.{none-at, some-or}
 use Rattle.dense_block.specs.Words.{value, wordsFor, termOf, strays, straysIn}
 use Rattle.dense_block.proofs.Terms.{row-within}
 use Rattle.dense_block.proofs.Strays.{below-of}
-use Rattle.majorana.specs.Sets.{badSize, setLent, manyOrShort, badRowAt, badRows, manyOrBad, Fits}
+use Rattle.majorana.specs.Sets.{badSize, setLent, manyOrShort, badRowAt, badRows, manyOrBad}
+use Rattle.majorana.specs.Held.{Fits}
 
 module _ {n w : ℕ} {xs zs ps : List ℕ} (fits : Fits n w xs zs ps) (k : ℕ) (low : k < 2 * n) where
   pub x-row : k * w + w ≤ length xs

@@ -2,7 +2,10 @@
 --
 -- In plain words: let the rows of a set anticommute in pairs, and let the vacuum meet the rule (so that X parts are alike and every d is even). Then the encoding call
 -- answers done on every list of n bits, no two lists get the same string, the decoding call gives the list back, and it refuses exactly the strings of q bits that no
--- list encodes to. Below, a call is its contract: `Encodes` of try_encode and `Decodes` of decode_zbasis_state, with the slices as they were lent and are left.
+-- list encodes to; that is said of the algebra's encoding, and once more of the calls alone: those that no encoding call leaves. On any row set, what a call that is done
+-- writes stands for the string, or the list, of the algebra: no bit is cut off, and none is stray.
+-- Below, a call is its contract: `Encodes` of try_encode and `Decodes` of decode_zbasis_state, with the slices as they were lent and are left. The premises, and the records
+-- that say what is proved, are in specs/Accepted.antt.
 --
 -- The theorems of the algebra that these rest on are in crate `algebra`, over numbers of any width:
 --   Duals         dual-same, dual-other: e and c are dual
@@ -11,51 +14,48 @@
 --   Operators     encoded-acts: the string and the phase of a list are those of the γ_2i of its modes, applied from the highest mode down
 --   Independence  anticommuting-independent: rows that anticommute in pairs are independent, so 11 never follows where 10 was passed
 --   Existence     vacuum-exists: where moreover X parts agree and every d is even there is a vacuum, so 12 is never answered
-use Prim.Native.Nat.{ℕ, _*_, _^_, _<_}
+use Prim.Native.Nat.{ℕ, zero, suc, _*_, _/_, _^_, _<_}
 use native.Mathlib.Nat.{lt-of-lt-of-le}
 use native.Mathlib.Omega.{arith}
 use mathlib.Core.Path.{_≡_, refl, sym, ap, _∙_}
 use mathlib.Core.Logic.{_⊎_, inl, inr, ⊎-elim, _↔_}
 use mathlib.Core.List.{List, [], _∷_}
-use mathlib.Core.Bool.{Bool, true, false, not}
+use mathlib.Core.Bool.{Bool, true, false, not, _||_}
 use lib.Count.{ones, onesIn}
+use lib.ListN.{length, getD}
 use lib.Pow.{pow-mono}
+use lib.Seq.{take-all}
 use Rattle.refusal.specs.declared.Answer.{Answer}
 use Rattle.refusal.specs.declared.Answer.the-variants.{Done as Fine, Refused as No}
 use Rattle.refusal.specs.declared.Refusal.the-variants.{Undecodable}
 use Rattle.refusal.specs.Numbers.{Paper, bare}
 use Rattle.refusal.specs.Search.{allBelow, someBelow, leastBelow, Pair, pair, noPair, firstPair}
-use Rattle.refusal.specs.Table.{_gives_, _names_, firstOf}
-use Rattle.refusal.proofs.Bools.{or-left, or-right}
+use Rattle.refusal.specs.Table.{_gives_, _names_, firstOf, _of_, onDone}
+use Rattle.refusal.proofs.Bools.{or-left, or-right, never}
+use Rattle.refusal.proofs.Rooms.{hold, long-enough}
 use Rattle.algebra.specs.Rows.{bit, common, dot, clash}
-use Rattle.algebra.specs.Modes.{Majorana, vacuumRule, commutingPair, e, d, paired, empty}
+use Rattle.algebra.specs.Modes.{vacuumRule, commutingPair, e, d, paired, empty}
 use Rattle.algebra.specs.Coding as algebra
 use Rattle.algebra.specs.Choices.{dependent}
 use Rattle.algebra.specs.Faithful.{Faithful}
 use Rattle.algebra.proofs.Pairs.{majorana-of}
+use Rattle.algebra.proofs.Codings.{decoded-below}
 use Rattle.algebra.proofs.Operators.{encoded-below}
 use Rattle.algebra.proofs.Demand3.{demand-3}
-use Rattle.dense_block.specs.Words.{value, wordsFor, filled, strays}
-use Rattle.dense_block.proofs.Values.{value-of-words, words-hold, take-filled}
+use Rattle.dense_block.specs.Words.{value, wordsOf, wordsFor, filled, strays}
+use Rattle.dense_block.proofs.Values.{value-of-words, length-words-of, words-hold, written-back}
 use Rattle.dense_block.proofs.Strays.{below-of, no-strays}
+use Rattle.pauli.specs.declared.Phase.{Phase}
 use Rattle.majorana.specs.declared.Encoded.{Encoded}
 use Rattle.majorana.specs.declared.Encoded.the-variants.{Done}
-use Rattle.majorana.specs.Sets.{Set, given, width, modes, trimmed, bits, badSize, badRowAt, badRows, badSet}
+use Rattle.majorana.specs.Sets.{Set, given, width, modes, trimmed, bits, badSize, setLent, badRowAt, badRows, badSet}
 use Rattle.majorana.specs.Checks.{vacuumBad, rowsShort, rowsChecked}
-use Rattle.majorana.specs.Codes.{encoded, encodeShort, encodeBad, encodeRefused, Encodes, decoded, decodeShort, decodeBad, decodeRefused, Decodes}
+use Rattle.majorana.specs.Codes.{encoded, unencodable, stateOf, phaseOf, encodeShort, encodeBad, encodeRefused, Told, Encodes, decoded, undecodable, listOf, decodeShort, decodeBad, decodeRefused, Decodes}
+use Rattle.majorana.specs.Accepted.{Sound, Listed, Stringed, EncodedTo, DecodedTo, DecodedFrom, Source, EncodingCall}
 use Rattle.majorana.proofs.SetLaws.{x-below}
 use Rattle.majorana.proofs.CodeAnswers.{encode-run, encode-outcome, decode-found, decode-foreign, decode-outcome}
 
--- ---- what is asked of a row set and its vacuum
-
-pub record Sound (s : Set) (vs : List ℕ) : Type 0 where
-  -- tests 1 and 17 pass: sizes, phases, no stray bit in a row or in the vacuum
-  pub size : badSize (s .n) (s .q) ≡ false
-  pub good : vacuumBad s vs ≡ false
-  -- the rows anticommute in pairs
-  pub rows : Majorana (modes s)
-  -- the vacuum meets the rule: X parts alike, d even, e·v = d/2
-  pub vacuum : vacuumRule (modes s) (bits (s .q) vs) ≡ true
+-- ---- which sets are accepted
 
 -- a set that the row check answers done on is such a set
 pub checked-sound : (s : Set) (vs room : List ℕ) → rowsChecked s vs room ≡ bare 0 → Sound s vs
@@ -75,38 +75,77 @@ checked-sound s vs room h =
     go false false false noPair false true h = (refl, refl, refl, refl)
     go false false false noPair false false h = absurd (omega arith)
 
--- a list of n bits, and a string of q bits: no stray bit
-abbrev pub Listed : Set → List ℕ → Type 0
-Listed s ls = strays (trimmed (s .n) ls) (s .n) ≡ false
+-- ---- what is written stands for the string, or the list, on every row set that passes the tests
 
-abbrev pub Stringed : Set → List ℕ → Type 0
-Stringed s ts = strays (trimmed (s .q) ts) (s .q) ≡ false
+-- a call that is done: neither 17 nor its own number was due
+tests-passed : (k : ℕ) (size short bad refused : Bool) → firstOf ((size gives 1) ∷ (short gives 2) ∷ (bad gives 17) ∷ (refused gives suc k) ∷ []) .number ≡ 0 → (bad ≡ false) × (refused ≡ false)
+tests-passed k true short bad refused h = absurd (omega arith)
+tests-passed k false true bad refused h = absurd (omega arith)
+tests-passed k false false true refused h = absurd (omega arith)
+tests-passed k false false false true h = absurd (omega arith)
+tests-passed k false false false false h = (refl, refl)
 
--- ---- what encoding makes of a list
+-- the string that a list encodes to has q bits
+string-low : (s : Set) (vs : List ℕ) → badSet s ≡ false → Stringed s vs → (l t f : ℕ) → algebra.encode (modes s) (bits (s .q) vs) l ≡ algebra.done t f → t < 2 ^ s .q
+string-low s vs good plain l t f h =
+    encoded-below (modes s) l (bits (s .q) vs) t f h (s .q) (below-of (trimmed (s .q) vs) (s .q) plain)
+    (λ i g. x-below (s .n) (s .q) (width s) (s .xs) (s .zs) (s .ps) good (2 * i) (omega arith))
 
-pub record EncodedTo (s : Set) (vs ls out : List ℕ) (r : Encoded) (after : List ℕ) : Type 0 where
-  pub string : ℕ
-  pub phase : ℕ
-  -- the algebra's answer
-  pub run : algebra.encode (modes s) (bits (s .q) vs) (bits (s .n) ls) ≡ algebra.done string phase
-  -- the call's: done, with the phase, and the string's words in the first w of out
-  pub answer : r ≡ Done (record { power = phase })
-  pub words : after ≡ filled (width s) string out
-  -- the string has q bits, and is what those words stand for
-  pub low : string < 2 ^ s .q
-  pub written : bits (s .q) after ≡ string
+pub encode-stands : (s : Set) (vs ls out : List ℕ) (f : Phase) (after : List ℕ) → Encodes s vs ls out (Done f) after → EncodedTo s vs ls out (Done f) after
+unfolding encoded encodeRefused encodeBad
+encode-stands s vs ls out f after h = go (algebra.encode (modes s) (bits (s .q) vs) (bits (s .n) ls)) refl
+  where
+    done : encodeRefused s vs ls out ≡ bare 0
+    done = sym (ap (λ (t : Told). t .told) (h .answer))
 
--- ---- and decoding of its string
+    tests : (encodeBad s vs ls ≡ false) × (unencodable (encoded s vs ls) ≡ false)
+    tests = tests-passed 14 (badSize (s .n) (s .q)) (encodeShort s vs ls out) (encodeBad s vs ls) (unencodable (encoded s vs ls)) (ap (λ (p : Paper). p .number) done)
 
-pub record DecodedTo (s : Set) (ls out : List ℕ) (r : Answer) (after : List ℕ) : Type 0 where
-  -- done, and the first words of out hold the list ls
-  pub answer : r ≡ Fine
-  pub words : after ≡ filled (wordsFor (s .n)) (bits (s .n) ls) out
-  pub same : bits (s .n) after ≡ bits (s .n) ls
+    go : (e : algebra.Encoded) → algebra.encode (modes s) (bits (s .q) vs) (bits (s .n) ls) ≡ e → EncodedTo s vs ls out (Done f) after
+    go algebra.refused e = absurd (never (ap unencodable e) (tests .1))
+    go (algebra.done t g) e =
+        let strays-both = strays (trimmed (s .q) vs) (s .q) || strays (trimmed (s .n) ls) (s .n) in
+        let good = or-left (badSet s) strays-both (tests .0) in
+        let plain = or-left (strays (trimmed (s .q) vs) (s .q)) (strays (trimmed (s .n) ls) (s .n)) (or-right (badSet s) strays-both (tests .0)) in
+        let low = string-low s vs good plain (bits (s .n) ls) t g e in
+        let phase : f .power ≡ g = ap (λ (t : Told). t .phase) (h .answer) ∙ ap (λ (p : Paper). onDone p (phaseOf (encoded s vs ls)) 0) done ∙ ap phaseOf e in
+        let words : after ≡ filled (width s) t out =
+        h .string ∙ ap (λ (p : Paper). onDone p (filled (width s) (stateOf (encoded s vs ls)) out) out) done ∙ ap (λ (x : algebra.Encoded). filled (width s) (stateOf x) out) e in
+        let written = ap (bits (s .q)) words ∙ written-back (s .q) t out low in
+        record {
+          string = t;
+          phase = g;
+          run = e;
+          answer = ap Done (λ j. record { power = phase j });
+          words = words;
+          low = low;
+          written = written;
+          plain = no-strays (trimmed (s .q) after) (s .q) (rw written low);
+        }
 
--- the words that a number of k bits was written to stand for it
-written-back : (k t : ℕ) (out : List ℕ) → t < 2 ^ k → bits k (filled (wordsFor k) t out) ≡ t
-written-back k t out h = ap value (take-filled (wordsFor k) t out) ∙ value-of-words (wordsFor k) t (lt-of-lt-of-le h (pow-mono (words-hold k)))
+pub decode-stands : (s : Set) (vs ts out after : List ℕ) → Decodes s vs ts out Fine after → DecodedFrom s vs ts after
+unfolding decoded decodeRefused
+decode-stands s vs ts out after h = go (algebra.decode (modes s) (bits (s .q) vs) (bits (s .q) ts)) refl
+  where
+    done : decodeRefused s vs ts out ≡ bare 0
+    done = sym (h .answer)
+
+    go : (d : algebra.Decoded) → algebra.decode (modes s) (bits (s .q) vs) (bits (s .q) ts) ≡ d → DecodedFrom s vs ts after
+    go algebra.foreign e =
+        absurd (never (ap undecodable e) (tests-passed 13 (badSize (s .n) (s .q)) (decodeShort s vs ts out) (decodeBad s vs ts) (undecodable (decoded s vs ts)) (ap (λ (p : Paper). p .number) done) .1))
+    go (algebra.found l) e =
+        let low = decoded-below (modes s) (bits (s .q) vs) l (bits (s .q) ts) e in
+        let words : after ≡ filled (wordsFor (s .n)) l out =
+        h .list ∙ ap (λ (p : Paper). onDone p (filled (wordsFor (s .n)) (listOf (decoded s vs ts)) out) out) done ∙ ap (λ (x : algebra.Decoded). filled (wordsFor (s .n)) (listOf x) out) e in
+        let written = ap (bits (s .n)) words ∙ written-back (s .n) l out low in
+        record { list = l; run = e; low = low; written = written; plain = no-strays (trimmed (s .n) after) (s .n) (rw written low) }
+
+-- the words of a number fit 64 bits
+words-words : (w v i : ℕ) → getD (wordsOf w v) i 0 < 2 ^ 64
+words-words zero v zero = omega arith
+words-words zero v (suc i) = omega arith
+words-words (suc w) v zero = omega arith
+words-words (suc w) v (suc i) = words-words w (v / 2 ^ 64) i
 
 -- ---- how the tests of the calls pass, and what the algebra says then
 
@@ -122,12 +161,6 @@ module _ (s : Set) (vs : List ℕ) (sound : Sound s vs) where
   -- demand 3 of the set's rows, over numbers
   pub faithful : Faithful (modes s) (bits (s .q) vs)
   faithful = demand-3 (modes s) (bits (s .q) vs) (sound .rows) (sound .vacuum)
-
-  -- the string that a list encodes to has q bits
-  string-low : (l t f : ℕ) → algebra.encode (modes s) (bits (s .q) vs) l ≡ algebra.done t f → t < 2 ^ s .q
-  string-low l t f h =
-      encoded-below (modes s) l (bits (s .q) vs) t f h (s .q) (below-of (trimmed (s .q) vs) (s .q) vacuum-plain)
-      (λ i g. x-below (s .n) (s .q) (width s) (s .xs) (s .zs) (s .ps) set-good (2 * i) (omega arith))
 
   encode-good : (ls : List ℕ) → Listed s ls → encodeBad s vs ls ≡ false
   unfolding encodeBad
@@ -162,19 +195,10 @@ module _ (s : Set) (vs : List ℕ) (sound : Sound s vs) where
   unfolding encoded
   encode-always ls out r after listed long h =
       let a = faithful .encodes (bits (s .n) ls) (below-of (trimmed (s .n) ls) (s .n) listed) in
-      let low = string-low (bits (s .n) ls) (a .0) (a .1) (a .2) in
       let runs : Encodes s vs ls out (Done (record { power = a .1 })) (filled (width s) (a .0) out) =
       encode-run s vs ls out (sound .size) long (encode-good ls listed) (Done (record { power = a .1 })) (filled (width s) (a .0) out) (rw (a .2)) (rw (a .2)) in
       let one = encode-outcome s vs ls out r (Done (record { power = a .1 })) after (filled (width s) (a .0) out) h runs in
-      record {
-        string = a .0;
-        phase = a .1;
-        run = a .2;
-        answer = one .0;
-        words = one .1;
-        low = low;
-        written = ap (bits (s .q)) (one .1) ∙ written-back (s .q) (a .0) out low;
-      }
+      rw (one .0, one .1) (encode-stands s vs ls out (record { power = a .1 }) (filled (width s) (a .0) out) runs)
 
   -- ---- decoding gives the list back
 
@@ -186,23 +210,18 @@ module _ (s : Set) (vs : List ℕ) (sound : Sound s vs) where
       let a = encode-always ls out r after listed long h in
       let l = bits (s .n) ls in
       let low : l < 2 ^ s .n = below-of (trimmed (s .n) ls) (s .n) listed in
-      let plain : Stringed s after = no-strays (trimmed (s .q) after) (s .q) (omega (arith, a .low, a .written)) in
       let back = ap (algebra.decode (modes s) (bits (s .q) vs)) (a .written) ∙ faithful .back l (a .string) (a .phase) low (a .run) in
-      let b = decoded-fine after dout t list l plain long′ k back in
+      let b = decoded-fine after dout t list l (a .plain) long′ k back in
       record { answer = b .0; words = b .1; same = ap (bits (s .n)) (b .1) ∙ written-back (s .n) l dout low }
 
   -- ---- it refuses exactly the strings that no list encodes to
 
-  -- a list of n bits that encodes to the string t
-  abbrev pub Source : ℕ → Type 0
-  Source t = (l : ℕ) × (f : ℕ) × (l < 2 ^ s .n) × (algebra.encode (modes s) (bits (s .q) vs) l ≡ algebra.done t f)
-
   module _ (ts out : List ℕ) (r : Answer) (after : List ℕ) (plain : Stringed s ts) (long : decodeShort s vs ts out ≡ false) (h : Decodes s vs ts out r after) where
-    settled : ((r ≡ Fine) × Source (bits (s .q) ts)) ⊎ ((r ≡ No Undecodable) × (Source (bits (s .q) ts) → ⊥))
+    settled : ((r ≡ Fine) × Source s vs (bits (s .q) ts)) ⊎ ((r ≡ No Undecodable) × (Source s vs (bits (s .q) ts) → ⊥))
     settled = go (algebra.decode (modes s) (bits (s .q) vs) (bits (s .q) ts)) refl
       where
         go : (o : algebra.Decoded) → algebra.decode (modes s) (bits (s .q) vs) (bits (s .q) ts) ≡ o
-            → ((r ≡ Fine) × Source (bits (s .q) ts)) ⊎ ((r ≡ No Undecodable) × (Source (bits (s .q) ts) → ⊥))
+            → ((r ≡ Fine) × Source s vs (bits (s .q) ts)) ⊎ ((r ≡ No Undecodable) × (Source s vs (bits (s .q) ts) → ⊥))
         go (algebra.found l) e =
             let a = faithful .from l (bits (s .q) ts) e in
             inl (decoded-fine ts out r after l plain long h e .0, (l, a .1 .0, a .0, a .1 .1))
@@ -212,17 +231,59 @@ module _ (s : Set) (vs : List ℕ) (sound : Sound s vs) where
     never-both : r ≡ Fine → r ≡ No Undecodable → ⊥
     never-both p q = let z : _≡_ {A = ℕ} 0 1 = cc in omega arith
 
-    pub decode-refuses-exactly : (r ≡ No Undecodable) ↔ (Source (bits (s .q) ts) → ⊥)
+    pub decode-refuses-exactly : (r ≡ No Undecodable) ↔ (Source s vs (bits (s .q) ts) → ⊥)
     decode-refuses-exactly = (
       λ e. ⊎-elim (λ p. absurd (never-both (p .0) e)) (λ p. p .1) settled,
       λ none. ⊎-elim (λ p. absurd (none (p .1))) (λ p. p .0) settled,
     )
 
-    pub decode-done-exactly : (r ≡ Fine) ↔ Source (bits (s .q) ts)
+    pub decode-done-exactly : (r ≡ Fine) ↔ Source s vs (bits (s .q) ts)
     decode-done-exactly = (
       λ e. ⊎-elim (λ p. p .1) (λ p. absurd (never-both e (p .0))) settled,
       λ source. ⊎-elim (λ p. p .0) (λ p. absurd (p .1 source)) settled,
     )
+
+    -- ---- the same over the calls of try_encode alone
+
+    -- what a call leaves is what its list encodes to
+    source-of : EncodingCall s vs ts → Source s vs (bits (s .q) ts)
+    source-of c =
+        let a = encode-always (c .list) (c .out) (Done (c .phase)) (c .after) (c .listed) (c .long) (c .promised) in
+        (bits (s .n) (c .list), a .phase, below-of (trimmed (s .n) (c .list)) (s .n) (c .listed), a .run ∙ ap (λ (x : ℕ). algebra.done x (a .phase)) (sym (a .written) ∙ c .leaves))
+
+    -- a list in words, and a call on it
+    call-of : Source s vs (bits (s .q) ts) → EncodingCall s vs ts
+    unfolding encoded encodeShort decodeShort
+    call-of (l, f, low, run) =
+        let ls = wordsOf (wordsFor (s .n)) l in
+        let room = wordsOf (width s) 0 in
+        let is : bits (s .n) ls ≡ l = ap value (take-all (wordsFor (s .n)) ls (omega (arith, length-words-of (wordsFor (s .n)) l))) ∙ value-of-words (wordsFor (s .n)) l (lt-of-lt-of-le low (pow-mono (words-hold (s .n)))) in
+        let listed = no-strays (trimmed (s .n) ls) (s .n) (rw is low) in
+        let have = hold (setLent (s .n) (width s) (length (s .xs)) (length (s .zs)) (length (s .ps)) ((width s of length vs) ∷ (width s of length ts) ∷ (wordsFor (s .n) of length out) ∷ [])) long in
+        let enough = long-enough (setLent (s .n) (width s) (length (s .xs)) (length (s .zs)) (length (s .ps)) ((width s of length vs) ∷ (wordsFor (s .n) of length ls) ∷ (width s of length room) ∷ []))
+        (have .0, (have .1 .0, (have .1 .1 .0, (have .1 .1 .1 .0, (omega (arith, length-words-of (wordsFor (s .n)) l), (omega (arith, length-words-of (width s) 0), tt)))))) in
+        let runs : algebra.encode (modes s) (bits (s .q) vs) (bits (s .n) ls) ≡ algebra.done (bits (s .q) ts) f = ap (algebra.encode (modes s) (bits (s .q) vs)) is ∙ run in
+        record {
+          list = ls;
+          out = room;
+          phase = record { power = f };
+          after = filled (width s) (bits (s .q) ts) room;
+          list-words = words-words (wordsFor (s .n)) l;
+          out-words = words-words (width s) 0;
+          listed = listed;
+          long = enough;
+          promised = encode-run s vs ls room (sound .size) enough (encode-good ls listed) (Done (record { power = f })) (filled (width s) (bits (s .q) ts) room) (rw runs) (rw runs);
+          leaves = written-back (s .q) (bits (s .q) ts) room (below-of (trimmed (s .q) ts) (s .q) plain);
+        }
+
+    pub decode-refuses-uncalled : (r ≡ No Undecodable) ↔ (EncodingCall s vs ts → ⊥)
+    decode-refuses-uncalled = (
+      λ e c. decode-refuses-exactly .0 e (source-of c),
+      λ none. decode-refuses-exactly .1 (λ a. none (call-of a)),
+    )
+
+    pub decode-done-called : (r ≡ Fine) ↔ EncodingCall s vs ts
+    decode-done-called = (λ e. call-of (decode-done-exactly .0 e), λ c. decode-done-exactly .1 (source-of c))
 
   -- ---- no two lists share a string
 

@@ -17,8 +17,8 @@ use Rattle.dense_block.specs.Words.{filled, zeroed}
 use Rattle.dense_block.proofs.Clears.{zeroed-same}
 use Rattle.majorana.specs.Sets.{Set, width, modes, badSize, badSet}
 use Rattle.majorana.specs.Checks.{checkRoom, rowsShort}
-use Rattle.majorana.specs.Rooms.{Same}
-use Rattle.majorana.specs.Vacuums.{vacuum, solveRoom, solveShort, solved, Solves, newChecked, newTask, Makes, SolvedLent, NewLent}
+use Rattle.majorana.specs.Rooms.{Same, newTask, SolvedLent, NewLent}
+use Rattle.majorana.specs.Vacuums.{vacuum, solveRoom, solveShort, solved, Solves, newChecked, Makes}
 
 -- ---- what a task's answer p leaves, once 1 and 2 are passed
 

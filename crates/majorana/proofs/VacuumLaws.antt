@@ -25,9 +25,10 @@ use Rattle.dense_block.proofs.Alongs.{length-along, value-xors, copied-whole}
 use Rattle.dense_block.proofs.Terms.{words-term, length-term}
 use Rattle.elimination.specs.Solving.{leftAt, rightAt, isFound, written}
 use Rattle.elimination.proofs.Vacuums.{unpaired-vacuum, unpaired-solvable, solvable-found}
-use Rattle.majorana.specs.Sets.{modesAt, badRows, Fits}
-use Rattle.majorana.specs.Rooms.{Same, taskChecked}
-use Rattle.majorana.specs.Vacuums.{vacuumOf, vacuum, allPaired, equationOf, EquationsLoaded, SolvedLent, NewLent}
+use Rattle.majorana.specs.Sets.{modesAt, badRows}
+use Rattle.majorana.specs.Held.{Fits}
+use Rattle.majorana.specs.Rooms.{Same, taskChecked, allPaired, equationOf, EquationsLoaded, SolvedLent, NewLent}
+use Rattle.majorana.specs.Vacuums.{vacuumOf, vacuum}
 use Rattle.majorana.proofs.SetLaws.{z-row, z-below}
 
 -- ---- an equation written

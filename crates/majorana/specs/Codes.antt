@@ -8,7 +8,7 @@ use Rattle.refusal.specs.declared.Answer.{Answer}
 use Rattle.refusal.specs.Numbers.{Paper, bare, paper, answered}
 use Rattle.refusal.specs.Table.{_gives_, firstOf, _of_, short, onDone}
 use Rattle.algebra.specs.Coding as algebra
-use Rattle.dense_block.specs.Words.{value, wordsFor, filled, strays}
+use Rattle.dense_block.specs.Words.{wordsFor, filled, strays}
 use Rattle.majorana.specs.declared.Encoded.{Encoded}
 use Rattle.majorana.specs.declared.Encoded.the-variants.{Done, Refused}
 use Rattle.majorana.specs.Sets.{Set, width, modes, trimmed, bits, badSize, setLent, badSet}
@@ -96,29 +96,3 @@ decodeRefused s vs ts out =
 pub record Decodes (s : Set) (vs ts out : List ℕ) (r : Answer) (after : List ℕ) : Type 0 where
   pub answer : answered r ≡ decodeRefused s vs ts out
   pub list : after ≡ onDone (decodeRefused s vs ts out) (filled (wordsFor (s .n)) (listOf (decoded s vs ts)) out) out
-
--- ---- for the private functions
-
--- an answer, with the words of the state so far
-abbrev pub kept : Encoded → List ℕ → algebra.Encoded
-kept (Done f) ws = algebra.done (value ws) (f .power)
-kept (Refused r) ws = algebra.refused
-
--- the list read, if the vacuum is left
-abbrev pub readOff : Bool → ℕ → algebra.Decoded
-readOff true l = algebra.found l
-readOff false l = algebra.foreign
-
--- once no test refuses: what an encoding hands back and leaves in the string
-abbrev pub ran : algebra.Encoded → Told
-ran (algebra.done t f) = record { told = bare 0; phase = f }
-ran algebra.refused = record { told = bare 15; phase = 0 }
-
-abbrev pub ranOut : algebra.Encoded → ℕ → List ℕ → List ℕ
-ranOut (algebra.done t f) w out = filled w t out
-ranOut algebra.refused w out = out
-
--- and a decoding in the list
-abbrev pub ranList : algebra.Decoded → ℕ → List ℕ → List ℕ
-ranList (algebra.found l) w out = filled w l out
-ranList algebra.foreign w out = out

@@ -1,5 +1,9 @@
 pub mod Sets
 pub mod Checks
-pub mod Codes
-pub mod Rooms
 pub mod Vacuums
+pub mod Codes
+pub mod Findings
+pub mod Accepted
+pub mod Held
+pub mod Rooms
+pub mod Runs

@@ -1,5 +1,5 @@
 -- A row set as it is lent: X parts and Z parts of w = ceil(q/64) words a row, row k from word k·w on, and a phase a row. Rows 2i and 2i + 1 belong to mode i.
-use Prim.Native.Nat.{ℕ, _*_, _≤_, _<_}
+use Prim.Native.Nat.{ℕ, _*_}
 use mathlib.Core.List.{List, [], _∷_}
 use mathlib.Core.Bool.{Bool, _||_}
 use lib.Dec.{eqb, ltb}
@@ -67,18 +67,3 @@ badSet s = badRows (s .n) (s .q) (width s) (s .xs) (s .zs) (s .ps)
 -- the same at any sizes: more than 256 modes are refused too. What lies past the end of a slice counts as 0
 unfoldable pub manyOrBad : ℕ → ℕ → ℕ → List ℕ → List ℕ → List ℕ → Bool
 manyOrBad n q w xs zs ps = ltb 256 n || badRows n q w xs zs ps
-
--- ---- what the private functions ask of rows that passed these
-
--- the slices hold the rows
-pub record Fits (n w : ℕ) (xs zs ps : List ℕ) : Type 0 where
-  pub modes : n ≤ 256
-  pub words : w ≤ 4
-  pub x-rows : 2 * n * w ≤ length xs
-  pub z-rows : 2 * n * w ≤ length zs
-  pub p-rows : 2 * n ≤ length ps
-
--- and the phases are 0 to 3
-pub record Held (n w : ℕ) (xs zs ps : List ℕ) : Type 0 where
-  pub fits : Fits n w xs zs ps
-  pub small : (k : ℕ) → k < 2 * n → getD ps k 0 < 4

@@ -16,7 +16,8 @@ ghost use Rattle.algebra.specs.Rows.{clash};
 ghost use Rattle.algebra.specs.Modes.{commutingPair};
 ghost use Rattle.algebra.specs.Choices.{dependent};
 ghost use Rattle.dense_block.specs.Words.{value, termOf, withTerm, strays};
-ghost use Rattle.majorana.specs.Sets.{rowAt, modesAt, badRows, Fits, Held};
+ghost use Rattle.majorana.specs.Sets.{rowAt, modesAt, badRows};
+ghost use Rattle.majorana.specs.Held.{Fits, Held};
 ghost use Rattle.majorana.specs.Rooms.{pairOf, Loaded, Same, taskChecked, valueChecked};
 
 // Two rows that commute, or none.

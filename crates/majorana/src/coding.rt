@@ -11,8 +11,10 @@ ghost use Prim.Native.Nat.{_*_, _≤_};
 ghost use lib.ListN.{length};
 ghost use Rattle.algebra.specs.Coding.{encode, decode};
 ghost use Rattle.dense_block.specs.Words.{value, wordsFor};
-ghost use Rattle.majorana.specs.Sets.{modesAt, Held};
-ghost use Rattle.majorana.specs.Codes.{undecodable, encodedPaper, kept, readOff, ran, ranOut, ranList};
+ghost use Rattle.majorana.specs.Sets.{modesAt};
+ghost use Rattle.majorana.specs.Held.{Held};
+ghost use Rattle.majorana.specs.Codes.{undecodable, encodedPaper};
+ghost use Rattle.majorana.specs.Runs.{kept, readOff, ran, ranOut, ranList};
 
 // Starts the state s at the vacuum and occupies the modes of the list in it.
 fn occupy_all(

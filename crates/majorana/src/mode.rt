@@ -10,7 +10,8 @@ ghost use Rattle.algebra.specs.Rows.{dot, phase};
 ghost use Rattle.algebra.specs.Modes.{lo, e, d, paired, empty, vacuumRule};
 ghost use Rattle.algebra.specs.Coding.{seen};
 ghost use Rattle.dense_block.specs.Words.{value};
-ghost use Rattle.majorana.specs.Sets.{modesAt, Held};
+ghost use Rattle.majorana.specs.Sets.{modesAt};
+ghost use Rattle.majorana.specs.Held.{Held};
 
 // The phase difference d of mode i.
 pub fn difference(modes: usize, w: usize, x: &[u64], z: &[u64], phases: &[u8], i: usize) -> u8

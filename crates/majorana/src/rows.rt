@@ -9,7 +9,8 @@ ghost use lib.ListN.{length, getD};
 ghost use Rattle.refusal.specs.Table.{_of_, short};
 ghost use Rattle.refusal.specs.Search.{someBelow};
 ghost use Rattle.dense_block.specs.Words.{termOf, strays};
-ghost use Rattle.majorana.specs.Sets.{setLent, badRows, Fits};
+ghost use Rattle.majorana.specs.Sets.{setLent, badRows};
+ghost use Rattle.majorana.specs.Held.{Fits};
 
 // Whether slices are too short for the rows and one thing more, of length `h1`, of which `n1` are needed; and for two and three more.
 pub fn short_one(modes: usize, w: usize, x: usize, z: usize, p: usize, n1: usize, h1: usize) -> bool

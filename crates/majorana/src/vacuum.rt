@@ -15,9 +15,9 @@ ghost use Rattle.refusal.specs.Table.{onDone};
 ghost use Rattle.algebra.specs.Solving.{solvable, solvedVacuum};
 ghost use Rattle.dense_block.specs.Words.{value, xors, withTerm};
 ghost use Rattle.elimination.specs.Solving.{written};
-ghost use Rattle.majorana.specs.Sets.{modesAt, badRows, Fits, Held};
-ghost use Rattle.majorana.specs.Rooms.{Same, taskChecked};
-ghost use Rattle.majorana.specs.Vacuums.{allPaired, equationOf, EquationsLoaded, SolvedLent, NewLent};
+ghost use Rattle.majorana.specs.Sets.{modesAt, badRows};
+ghost use Rattle.majorana.specs.Held.{Fits, Held};
+ghost use Rattle.majorana.specs.Rooms.{Same, taskChecked, allPaired, equationOf, EquationsLoaded, SolvedLent, NewLent};
 
 // Whether the X parts of each mode agree and its d is even.
 fn all_paired(modes: usize, w: usize, x: &[u64], z: &[u64], phases: &[u8]) -> bool

@@ -3,7 +3,6 @@ use Prim.Native.Nat.{ℕ, zero, suc, _+_, _*_, _/_, _%_, _^_}
 use mathlib.Core.Bool.{Bool, cond, not}
 use lib.Dec.{eqb, leb, ltb}
 use Rattle.algebra.specs.Rows.{common, Row}
-use Rattle.algebra.specs.Modes.{Modes}
 use Rattle.dense_block.specs.Words.{digit}
 
 -- the number that has a 1 in each column below n that passes
@@ -35,6 +34,3 @@ phaseOf n m = common (xPart n m) (zPart n m) % 4
 
 abbrev pub maxntoRow : ℕ → ℕ → Row
 maxntoRow n m = record { p = phaseOf n m; x = xPart n m; z = zPart n m }
-
-abbrev pub maxntoRows : ℕ → Modes
-maxntoRows n = record { n = n; row = maxntoRow n }

@@ -1,12 +1,13 @@
 -- `multiply` on small inputs, by computing its definition: one product, and one input for each refusal and for each two that stand next to each other.
-use mathlib.Core.Path.{_≡_, refl}
+use mathlib.Core.Path.{_≡_, refl, sym}
 use mathlib.Core.List.{[], _∷_}
 use lib.Count.{ones, onesIn}
 use Rattle.algebra.specs.Rows.{common}
 use Rattle.dense_block.specs.Words.{strays}
 use Rattle.refusal.specs.Numbers.{bare}
 use Rattle.pauli.specs.Phases.{letterPower}
-use Rattle.pauli.specs.Product.{Input, given, badColumns, badRow, tooShort, refused, multiplied, productX, productZ}
+use Rattle.pauli.specs.Product.{Input, given, product, badColumns, badRow, tooShort, refused, multiplied, productX, productZ, Whole}
+use Rattle.pauli.proofs.Theorems.{multiply-whole}
 
 -- X and then Y is i Z; the word past the first stays
 abbrev x-then-y : Input
@@ -23,6 +24,10 @@ product-x = refl
 product-z : productZ x-then-y ≡ 1 ∷ []
 unfolding productZ refused badColumns badRow tooShort strays
 product-z = refl
+
+-- which stand for i Z on one column, and nothing else
+product-whole : Whole 1 (product x-then-y) (record { p = 1; xs = 0 ∷ 8 ∷ []; zs = 1 ∷ [] })
+product-whole = multiply-whole x-then-y (record { power = 1 }) (0 ∷ 8 ∷ []) (1 ∷ []) (record { answer = sym product-done; x-part = sym product-x; z-part = sym product-z })
 
 no-columns : refused (given 0 0 (1 ∷ []) (0 ∷ []) 1 (1 ∷ []) (1 ∷ []) (0 ∷ []) (0 ∷ [])) ≡ bare 1
 unfolding refused badColumns badRow tooShort strays

@@ -1,4 +1,5 @@
 pub mod Signed
 pub mod Turns
 pub mod Products
+pub mod Theorems
 pub mod Examples

@@ -1,14 +1,15 @@
--- Turns of a coefficient compose as phases add: four quarter turns are none, since negating twice changes nothing, of a NaN too.
+-- Turns of a coefficient compose as phases add: four quarter turns are none, since negating twice changes nothing, of a NaN too. A real number turned and marked stands
+-- for the complex turn, by computing each of the four.
 use Prim.Native.Nat.{ℕ, zero, suc, _+_, _*_, _/_, _%_, _<_}
-use native.Mathlib.Nat.{zero-add, suc-add}
+use native.Mathlib.Nat.{zero-add, suc-add, zero-mul}
 use native.Mathlib.Omega.{arith}
 use mathlib.Core.Path.{_≡_, refl, sym, ap, _∙_}
-use mathlib.Core.Bool.{Bool, true, false, not}
-use lib.Ieee.{Float, nan, inf, fin, neg, lt}
+use mathlib.Core.Bool.{Bool, true, false, not, _||_, Bool·beq}
+use borrow.Author.Tests.{eq-eqb}
+use lib.Ieee.{Float, nan, inf, fin, neg, lt, eq, level, up, down}
 use Rattle.pauli.specs.declared.Coefficient.{Coefficient}
-use Rattle.pauli.specs.declared.Marked.{Marked}
-use Rattle.pauli.specs.declared.Marked.the-variants.{Real, Imag}
-use Rattle.pauli.specs.Coefficients.{quarter, turned, marked, isFinite}
+use Rattle.pauli.specs.declared.Marked.the-variants.{Real}
+use Rattle.pauli.specs.Coefficients.{quarter, turned, marked, markedQuarter, stands, isFinite, plainZero, SameNumber}
 
 not-not : (b : Bool) → not (not b) ≡ b
 not-not true = refl
@@ -52,17 +53,44 @@ turns-compose a b c = turned-mod (a + b) c ∙ turned-add a b c
 
 -- ---- a real coefficient: the same turns, with the mark for the part that is zero
 
--- a quarter turn takes c to i c, and i c to -c
-abbrev pub marked-quarter : Marked → Marked
-marked-quarter (Real x) = Imag x
-marked-quarter (Imag x) = Real (neg x)
-
-pub marked-turns : (k : ℕ) (x : Float) → k < 4 → marked ((k + 1) % 4) x ≡ marked-quarter (marked k x)
+-- one power more is a quarter turn more
+pub marked-turns : (k : ℕ) (x : Float) → k < 4 → marked ((k + 1) % 4) x ≡ markedQuarter (marked k x)
 marked-turns zero x h = refl
 marked-turns (suc zero) x h = refl
 marked-turns (suc (suc zero)) x h = refl
 marked-turns (suc (suc (suc zero))) x h = ap Real (sym (neg-neg x))
 marked-turns (suc (suc (suc (suc k)))) x h = absurd (omega arith)
+
+-- what is marked stands for the complex turn of the real number. Turning negates a part that is zero, so the two are the same but for the sign of that zero
+pub marked-stands : (k : ℕ) (x : Float) → SameNumber (stands (marked k x)) (turned k (stands (Real x)))
+unfolding neg
+marked-stands zero x = record { re = refl; im = refl }
+marked-stands (suc zero) x = record { re = refl; im = refl }
+marked-stands (suc (suc zero)) x = record { re = refl; im = refl }
+marked-stands (suc (suc (suc zero))) x = record { re = refl; im = refl }
+marked-stands (suc (suc (suc (suc k)))) x = rw (four-turns (turned k (stands (Real x)))) (marked-stands k x)
+
+or-true : (b : Bool) → (b || true) ≡ true
+or-true true = refl
+or-true false = refl
+
+level-self : (s : Bool) (a : ℕ) → level s a s a ≡ true
+level-self true a = rw (eq-eqb a a refl)
+level-self false a = rw (eq-eqb a a refl)
+
+-- where the first is finite, the same number is what `==` takes for the same
+pub same-equal : (x y : Float) → isFinite x ≡ true → plainZero x ≡ plainZero y → eq x y ≡ true
+unfolding eq
+same-equal nan y h k = cc
+same-equal (inf s) y h k = cc
+same-equal (fin s zero e) nan h k = cc
+same-equal (fin s zero e) (inf t) h k = cc
+same-equal (fin s zero e) (fin t zero d) h k = rw (zero-mul (up e), zero-mul (down d), zero-mul (up d), zero-mul (down e)) (or-true (Bool·beq s t))
+same-equal (fin s zero e) (fin t (suc n) d) h k = cc
+same-equal (fin s (suc m) e) nan h k = cc
+same-equal (fin s (suc m) e) (inf t) h k = cc
+same-equal (fin s (suc m) e) (fin t zero d) h k = cc
+same-equal (fin s (suc m) e) (fin t (suc n) d) h k = ap (λ (y : Float). eq (fin s (suc m) e) y) (sym k) ∙ level-self s (suc m * up e * down e)
 
 -- ---- finite numbers lie between the infinities
 

@@ -1,5 +1,6 @@
--- Coefficients turned by a power of i: parts are moved and negated, and never rounded.
+-- Coefficients turned by a power of i: parts are moved and negated, and never rounded. What a marked one stands for, and which complex numbers are the same.
 use Prim.Native.Nat.{ℕ, zero, suc}
+use mathlib.Core.Path.{_≡_}
 use mathlib.Core.Bool.{Bool, true, false}
 use lib.IntN.{pos}
 use lib.Ieee.{Float, nan, inf, fin, neg}
@@ -24,6 +25,11 @@ marked (suc (suc zero)) c = Real (neg c)
 marked (suc (suc (suc zero))) c = Imag (neg c)
 marked (suc (suc (suc (suc k)))) c = marked k c
 
+-- a quarter turn of a marked number takes c to i c, and i c to -c
+abbrev pub markedQuarter : Marked → Marked
+markedQuarter (Real x) = Imag x
+markedQuarter (Imag x) = Real (neg x)
+
 abbrev pub zeroFloat : Float
 zeroFloat = fin false 0 (pos 0)
 
@@ -36,3 +42,17 @@ abbrev pub isFinite : Float → Bool
 isFinite nan = false
 isFinite (inf s) = false
 isFinite (fin s m e) = true
+
+-- ---- the same number
+
+-- a zero without its sign; every other number as it is
+abbrev pub plainZero : Float → Float
+plainZero nan = nan
+plainZero (inf s) = inf s
+plainZero (fin s zero e) = zeroFloat
+plainZero (fin s (suc m) e) = fin s (suc m) e
+
+-- two complex numbers are the same, signs of zero apart
+pub record SameNumber (c d : Coefficient) : Type 0 where
+  pub re : plainZero (c .re) ≡ plainZero (d .re)
+  pub im : plainZero (c .im) ≡ plainZero (d .im)

@@ -2,12 +2,12 @@
 use Prim.Native.Nat.{ℕ}
 use mathlib.Core.Path.{_≡_}
 use mathlib.Core.List.{List, [], _∷_}
-use mathlib.Core.Bool.{Bool, _||_}
+use mathlib.Core.Bool.{Bool, false, _||_}
 use lib.Dec.{eqb, ltb}
 use lib.ListN.{length, take}
 use Rattle.refusal.specs.Numbers.{Paper, bare, paper}
 use Rattle.refusal.specs.Table.{_gives_, firstOf, _of_, short, onDone}
-use Rattle.algebra.specs.Rows.{Row, times}
+use Rattle.algebra.specs.Rows.{Row, OnColumns, times}
 use Rattle.dense_block.specs.Words.{value, wordsFor, filled, strays}
 use Rattle.pauli.specs.declared.Product.{Product}
 use Rattle.pauli.specs.declared.Product.the-variants.{Done, Refused}
@@ -90,3 +90,11 @@ pub record Multiplied (i : Input) (r : Product) (xs zs : List ℕ) : Type 0 wher
   pub answer : productPaper r ≡ multiplied i
   pub x-part : xs ≡ productX i
   pub z-part : zs ≡ productZ i
+
+-- ---- a row left in lent words
+
+-- they stand for the row r on q columns: none of its bits is cut off, and the first ceil(q/64) words have no stray bit, so it may be lent again
+pub record Whole (q : ℕ) (r : Row) (l : LentRow) : Type 0 where
+  pub on-columns : OnColumns q r
+  pub stands : rowOf (trimmed q l) ≡ r
+  pub good : badRow q (trimmed q l) ≡ false

@@ -1,3 +1,4 @@
 pub mod ProductLaws
 pub mod ProductAnswers
 pub mod ProductExamples
+pub mod Theorems

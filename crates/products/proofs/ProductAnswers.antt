@@ -30,7 +30,8 @@ use Rattle.products.specs.declared.RealMultiplied.the-variants.{Done as 
 use Rattle.products.specs.declared.factors.Made.{Made}
 use Rattle.products.specs.declared.factors.Made.the-variants.{Done as MadeDone, Refused as MadeRefused}
 use Rattle.majorana.specs.Sets.{Set, width, badSize}
-use Rattle.products.specs.Products.{product, productSize, productShort, productBad, productRefused, Told, zeroCoefficient, multipliedPaper, finiteParts, complexRefused, Multiplies, RealTold, realPaper, realRefused, RealMultiplies, rowOf, MadeTold, madePaper, Makes, MakesOrRefuses}
+use Rattle.products.specs.Products.{product, productSize, productShort, productBad, productRefused, Told, zeroCoefficient, multipliedPaper, finiteParts, complexRefused, Multiplies, RealTold, realPaper, realRefused, RealMultiplies}
+use Rattle.products.specs.Private.{rowOf, MadeTold, madePaper, Makes, MakesOrRefuses}
 
 -- ---- the words written
 

@@ -11,10 +11,13 @@ use Rattle.algebra.specs.Rows.{common}
 use Rattle.dense_block.specs.Words.{wordsOf, strays}
 use Rattle.pauli.specs.declared.Marked.the-variants.{Real, Imag}
 use Rattle.pauli.specs.Phases.{letterPower}
+use Rattle.pauli.specs.Coefficients.{stands, SameNumber}
+use Rattle.pauli.specs.Product.{Whole}
 use Rattle.products.specs.declared.Multiplied.the-variants.{Done}
 use Rattle.products.specs.declared.RealMultiplied.the-variants.{Done as RealDone}
 use Rattle.majorana.specs.Sets.{Set, given, badSize, badRowAt, badRows}
-use Rattle.products.specs.Products.{productOf, productSize, productShort, someHigh, productBad, productRefused, Multiplies, RealMultiplies}
+use Rattle.products.specs.Products.{productOf, product, productSize, productShort, someHigh, productBad, productRefused, Multiplies, RealMultiplies}
+use Rattle.products.proofs.Theorems.{real-whole, real-stands}
 
 -- XI, YI, ZX, ZY with phases 0, 1, 0, 1
 abbrev pub jordan-wigner : Set
@@ -39,10 +42,18 @@ unfolding productOf productSize productShort someHigh productBad productRefused 
 jordan-wigner-10 = record { answer = refl; x-part = refl; z-part = refl }
 
 -- the same with the complex coefficient 2: power 3 takes (2, 0) to (0, -2)
-pub jordan-wigner-complex : Multiplies jordan-wigner (1 ∷ 0 ∷ []) (record { re = two; im = fin false 0 (pos 0) }) (7 ∷ []) (9 ∷ [])
-    (Done (record { power = 3 }) (record { re = fin false 0 (pos 0); im = neg two })) (0 ∷ []) (0b01 ∷ [])
+pub jordan-wigner-complex : Multiplies jordan-wigner (1 ∷ 0 ∷ []) (record { re = two; im = fin false 0 (pos 0) }) (7 ∷ 8 ∷ []) (9 ∷ [])
+    (Done (record { power = 3 }) (record { re = fin false 0 (pos 0); im = neg two })) (0 ∷ 8 ∷ []) (0b01 ∷ [])
 unfolding productOf productSize productShort someHigh productBad productRefused badSize badRows badRowAt someBelow strays common ones onesIn letterPower neg
 jordan-wigner-complex = record { answer = refl; x-part = refl; z-part = refl }
+
+-- what is left stands for i^3 ZI, on two columns
+jordan-wigner-whole : Whole 2 (product jordan-wigner (1 ∷ 0 ∷ [])) (record { p = 3; xs = 0 ∷ 8 ∷ []; zs = 0b01 ∷ [] })
+jordan-wigner-whole = real-whole jordan-wigner (1 ∷ 0 ∷ []) (7 ∷ 8 ∷ []) (9 ∷ []) two (Imag (neg two)) (record { power = 3 }) (0 ∷ 8 ∷ []) (0b01 ∷ []) jordan-wigner-10
+
+-- and imaginary -2 for (0, -2)
+jordan-wigner-stands : SameNumber (stands (Imag (neg two))) (record { re = fin false 0 (pos 0); im = neg two })
+jordan-wigner-stands = real-stands jordan-wigner (1 ∷ 0 ∷ []) (7 ∷ 8 ∷ []) (9 ∷ []) two _ _ _ _ _ _ jordan-wigner-10 jordan-wigner-complex .0 .coefficient
 
 -- no rows: the identity, phase 0, and the coefficient as it was
 pub empty-product : RealMultiplies jordan-wigner [] two (7 ∷ []) (9 ∷ []) (RealDone (record { power = 0 }) (Real two)) (0 ∷ []) (0 ∷ [])

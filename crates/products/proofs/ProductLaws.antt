@@ -18,8 +18,10 @@ use Rattle.dense_block.proofs.Values.{Words}
 use Rattle.dense_block.proofs.Alongs.{value-xors}
 use Rattle.dense_block.proofs.Terms.{words-term, length-term}
 use Rattle.pauli.proofs.Products.{sign-of}
-use Rattle.majorana.specs.Sets.{rowAt, Fits}
-use Rattle.products.specs.Products.{productOf, someHigh, rowOf}
+use Rattle.majorana.specs.Sets.{rowAt}
+use Rattle.majorana.specs.Held.{Fits}
+use Rattle.products.specs.Products.{productOf, someHigh}
+use Rattle.products.specs.Private.{rowOf}
 use Rattle.majorana.proofs.SetLaws.{x-row, z-row}
 
 -- ---- row numbers that are not too high

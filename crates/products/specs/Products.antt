@@ -11,18 +11,16 @@ use Rattle.refusal.specs.Table.{_gives_, firstOf, _of_, short, onDone}
 use Rattle.refusal.specs.Search.{someBelow}
 use Rattle.algebra.specs.Rows.{Row, times, identity}
 use Rattle.algebra.specs.Modes.{Modes}
-use Rattle.dense_block.specs.Words.{value, filled}
+use Rattle.dense_block.specs.Words.{filled}
 use Rattle.pauli.specs.declared.Coefficient.{Coefficient}
 use Rattle.pauli.specs.declared.Marked.{Marked}
 use Rattle.pauli.specs.declared.Marked.the-variants.{Real}
 use Rattle.pauli.specs.Phases.{rowPower}
-use Rattle.pauli.specs.Coefficients.{turned, marked, zeroFloat, isFinite}
+use Rattle.pauli.specs.Coefficients.{turned, marked, zeroFloat, stands, isFinite, SameNumber}
 use Rattle.products.specs.declared.Multiplied.{Multiplied}
 use Rattle.products.specs.declared.Multiplied.the-variants.{Done, Refused}
 use Rattle.products.specs.declared.RealMultiplied.{RealMultiplied}
 use Rattle.products.specs.declared.RealMultiplied.the-variants.{Done as RealDone, Refused as RealRefused}
-use Rattle.products.specs.declared.factors.Made.{Made}
-use Rattle.products.specs.declared.factors.Made.the-variants.{Done as MadeDone, Refused as MadeRefused}
 use Rattle.majorana.specs.Sets.{Set, width, modes, badSize, setLent, badSet}
 
 -- the rows of these numbers multiplied in the order in which they stand; an empty product is the identity, phase 0
@@ -120,34 +118,10 @@ pub record RealMultiplies (s : Set) (ks : List ℕ) (c : Float) (oxs ozs : List 
   pub x-part : xs ≡ partLeft (realRefused s ks c oxs ozs) s (product s ks .x) oxs
   pub z-part : zs ≡ partLeft (realRefused s ks c oxs ozs) s (product s ks .z) ozs
 
--- ---- for the private functions
+-- ---- the two calls on one input
 
--- the row of a phase and the words of its parts
-abbrev pub rowOf : ℕ → List ℕ → List ℕ → Row
-rowOf p xs zs = record { p = p; x = value xs; z = value zs }
-
--- what both calls share: the phase of the product and its letter power
-pub record MadeTold : Type 0 where
-  pub told : Paper
-  pub phase : ℕ
-  pub letters : ℕ
-
-abbrev pub madePaper : Made → MadeTold
-madePaper (MadeDone f g) = record { told = bare 0; phase = f .power; letters = g .power }
-madePaper (MadeRefused r) = record { told = paper r; phase = 0; letters = 0 }
-
--- once no test refuses
-pub record Makes (w : ℕ) (row : Row) (oxs ozs : List ℕ) (r : Made) (xs zs : List ℕ) : Type 0 where
-  pub answer : madePaper r ≡ record { told = bare 0; phase = row .p; letters = rowPower row }
-  pub x-part : xs ≡ filled w (row .x) oxs
-  pub z-part : zs ≡ filled w (row .z) ozs
-
--- the call, whose coefficient is finite or not
-pub record MakesOrRefuses (s : Set) (ks : List ℕ) (finite : Bool) (oxs ozs : List ℕ) (r : Made) (xs zs : List ℕ) : Type 0 where
-  pub answer : madePaper r ≡ record {
-    told = productRefused s ks finite oxs ozs;
-    phase = onDone (productRefused s ks finite oxs ozs) (product s ks .p) 0;
-    letters = onDone (productRefused s ks finite oxs ozs) (rowPower (product s ks)) 0;
-  }
-  pub x-part : xs ≡ partLeft (productRefused s ks finite oxs ozs) s (product s ks .x) oxs
-  pub z-part : zs ≡ partLeft (productRefused s ks finite oxs ozs) s (product s ks .z) ozs
+-- a real coefficient x and the complex one (x, 0): the same number and phase, and what is marked stands for what is turned, signs of zero apart
+pub record AsComplex (a : RealTold) (b : Told) : Type 0 where
+  pub told : a .told ≡ b .told
+  pub phase : a .phase ≡ b .phase
+  pub coefficient : SameNumber (stands (a .coefficient)) (b .coefficient)

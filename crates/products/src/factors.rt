@@ -10,8 +10,10 @@ ghost use lib.ListN.{length};
 ghost use Rattle.refusal.specs.Table.{_of_, short};
 ghost use Rattle.algebra.specs.Rows.{times};
 ghost use Rattle.dense_block.specs.Words.{value};
-ghost use Rattle.majorana.specs.Sets.{given, rowAt, modesAt, setLent, badRows, Fits};
-ghost use Rattle.products.specs.Products.{productOf, someHigh, rowOf, Makes, MakesOrRefuses};
+ghost use Rattle.majorana.specs.Sets.{given, rowAt, modesAt, setLent, badRows};
+ghost use Rattle.majorana.specs.Held.{Fits};
+ghost use Rattle.products.specs.Products.{productOf, someHigh};
+ghost use Rattle.products.specs.Private.{rowOf, Makes, MakesOrRefuses};
 
 // The phase of the product and its letter power, or why there is none.
 pub enum Made {

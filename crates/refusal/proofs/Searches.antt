@@ -241,6 +241,13 @@ least-missing n test h = go (searched n test)
 
 -- ---- the first pair in row order
 
+pub record Is-first (n : ℕ) (test : ℕ → ℕ → Bool) (i j : ℕ) : Type 0 where
+  pub above : i < j
+  pub low : j < n
+  pub passes : test i j ≡ true
+  -- no pair with a smaller first number passes, and none with the same first and a smaller second
+  pub first : (c d : ℕ) → c < d → d < n → (c < i) ⊎ ((c ≡ i) × (d < j)) → test c d ≡ false
+
 module _ (n : ℕ) (test : ℕ → ℕ → Bool) where
   partner : ℕ → ℕ → Bool
   partner i j = ltb i j && test i j
@@ -283,3 +290,37 @@ module _ (n : ℕ) (test : ℕ → ℕ → Bool) where
           with-partner (miss f k) =
               let s = some-at n (partner i) (q .passes) in
               absurd (never (s .2) (f (s .0) (s .1)))
+
+  -- the pair that was found is the first that passes
+  pub pair-found : (i j : ℕ) → firstPair n test ≡ pair i j → Is-first n test i j
+  unfolding firstPair partner
+  pair-found i j h = go (searched n (λ i. someBelow n (partner i)))
+    where
+      failed : (c d : ℕ) → c < d → partner c d ≡ false → test c d ≡ false
+      failed c d m e = rw (lt-ltb c d m) at e
+
+      go : Searched n (λ i. someBelow n (partner i)) → Is-first n test i j
+      go (miss f e) = let z : _≡_ {A = Pair} noPair (pair i j) = sym (rw e) ∙ h in let o : _≡_ {A = ℕ} 0 1 = cc in absurd (omega arith)
+      go (hit k q e) = with-partner (searched n (partner k))
+        where
+          with-partner : Searched n (partner k) → Is-first n test i j
+          with-partner (miss f g) =
+              let s = some-at n (partner k) (q .passes) in
+              absurd (never (s .2) (f (s .0) (s .1)))
+          with-partner (hit l r g) =
+              let z : _≡_ {A = Pair} (pair k l) (pair i j) = sym (rw (e, g)) ∙ h in
+              let a : k ≡ i = cc in
+              let b : l ≡ j = cc in
+              rw (a, b) at here
+            where
+              before : (c d : ℕ) → c < d → d < n → (c < k) ⊎ ((c ≡ k) × (d < l)) → test c d ≡ false
+              before c d m u (inl p) = failed c d m (none-at n (partner c) (q .first c p) d u)
+              before c d m u (inr p) = failed c d m (rw (p .0) (r .first d (p .1)))
+
+              here : Is-first n test k l
+              here = record {
+                above = ltb-true k l (and-left (ltb k l) (test k l) (r .passes));
+                low = r .low;
+                passes = and-right (ltb k l) (test k l) (r .passes);
+                first = before;
+              }

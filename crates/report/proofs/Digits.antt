@@ -10,7 +10,7 @@ use borrow.Author.Tests.{ltb-true, ltb-false, lt-ltb, le-ltb, le-leb, ne-eqb}
 use Rattle.flatpack_text.specs.declared.read.Field.{Field}
 use Rattle.flatpack_text.specs.declared.read.Field.the-variants.{Number}
 use Rattle.flatpack_text.specs.Text.{isDigit, fieldOf}
-use Rattle.flatpack_text.specs.Machine.{next}
+use Rattle.flatpack_text.specs.Moves.{next}
 use Rattle.report.specs.Report.{digitsIn, digitsOf}
 use Rattle.flatpack_text.proofs.Numbers.{field-more}
 

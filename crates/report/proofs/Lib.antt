@@ -10,3 +10,4 @@ pub mod Packs
 pub mod Outputs
 pub mod OutputExamples
 pub mod Locating
+pub mod Sites

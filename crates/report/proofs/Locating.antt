@@ -14,9 +14,12 @@ use Rattle.flatpack_text.specs.declared.read.Text.{Text}
 use Rattle.flatpack_text.specs.declared.read.Text.the-variants.{Entries, Malformed}
 use Rattle.report.specs.declared.explain.Spot.the-variants.{Line, Z}
 use Rattle.report.specs.declared.locate.Site.{Site}
-use Rattle.flatpack_text.specs.Machine.{Told, textPaper, finished, Finishes}
+use Rattle.flatpack_text.specs.Machine.{Told, textPaper}
+use Rattle.flatpack_text.specs.Moves.{finished}
+use Rattle.flatpack_text.specs.Calls.{Finishes}
 use Rattle.flatpack_text.specs.Entries.{placed, plainAt, filledAt}
-use Rattle.report.specs.Located.{spotOf, locatedAt, faultAt, locatedIn, located}
+use Rattle.report.specs.Located.{spotOf, locatedAt}
+use Rattle.report.specs.Replies.{faultAt, locatedIn, located}
 
 -- neither the X nor the Y slot
 pub spot-other : (l : ℕ) → (l ≡ 0 → ⊥) → (l ≡ 1 → ⊥) → Z ≡ spotOf l

@@ -1,4 +1,4 @@
--- What is written for a text is its output by the definition: the tables hold its flatpack, so the tree, its refusals and its rows are the text's.
+-- What is written for a text is its output by the definition, and the number of the reply is the text's: the tables hold its flatpack, so the tree, its refusals and its rows are the text's.
 use Prim.Native.Nat.{ℕ, zero, suc, _+_, _*_, _≤_, _<_, min}
 use native.Mathlib.Nat.{mul-le-mul-left, mul-le-mul}
 use native.Mathlib.Omega.{arith}
@@ -6,7 +6,7 @@ use mathlib.Core.Path.{_≡_, refl, sym, ap, _∙_, subst, fun-ext}
 use mathlib.Core.List.{List, _∷_, _++_}
 use mathlib.Core.Bool.{Bool, true, false, cond, _&&_, _||_}
 use lib.Dec.{eqb, ltb, leb}
-use lib.ListN.{length, getD, take, drop, replicate, length-replicate}
+use lib.ListN.{length, getD, take, drop, replicate}
 use lib.Seq.{take-all}
 use borrow.Author.Tests.{leb-true, ltb-true, ltb-false, le-leb, lt-ltb, le-ltb, ne-eqb}
 use Rattle.refusal.specs.declared.Answer.{Answer}
@@ -15,7 +15,7 @@ use Rattle.refusal.specs.declared.Refusal.{Refusal}
 use Rattle.refusal.specs.declared.Refusal.the-variants.{Size, Short, Qubits, Child, SelfChild, SecondParent, SecondEntry, Roots, Leaf, Commuting, Dependent, NoVacuum, Vacuum, Undecodable, Unencodable, Malformed, Value, OddModes}
 use Rattle.refusal.specs.Numbers.{Paper, bare, paper, answered}
 use Rattle.refusal.specs.Search.{someBelow}
-use Rattle.refusal.specs.Table.{Rule, _gives_, firstOf, _of_, ifZero}
+use Rattle.refusal.specs.Table.{Rule, _gives_, firstOf, ifZero}
 use Rattle.refusal.proofs.Bools.{or-left, or-right}
 use Rattle.algebra.specs.Rows.{Row}
 use Rattle.dense_block.specs.Words.{wordsFor, copied}
@@ -27,15 +27,15 @@ use Rattle.tree_sizes.specs.Sizes.{outside, reaches, qubitAt}
 use Rattle.tree_sizes.proofs.SizeLaws.{inside}
 use Rattle.ternarytree.specs.Building.{Input, given, packOf, treeOf, slotAt, badSize, tooShort, badQubits, treeChecks, answer}
 use Rattle.report.specs.declared.reply.Reply.{Reply}
-use Rattle.flatpack_text.specs.Text.{lines, Entry, linesOf, wellFormed, malformed, isEmpty, parse}
+use Rattle.flatpack_text.specs.Text.{lines, Entry, linesOf, Parsed, wellFormed, malformed, isEmpty, parse}
 use Rattle.flatpack_text.specs.Machine.{most, told, numbersOf, kept}
 use Rattle.report.specs.Report.{digitsOf, refused, report, refusedLine, wrote, written, roomy, reportLength, reported}
-use Rattle.flatpack_text.specs.Entries.{plainAt, filledAt, used}
-use Rattle.report.specs.Output.{pack, tree, qubits, reaching, verdict, answerText, outputOf, output, inputOf, saidLength, said, Replied}
+use Rattle.flatpack_text.specs.Entries.{used}
+use Rattle.report.specs.Output.{pack, tree, qubits, reaching, verdict, verdictOf, answerText, outputOf, output}
+use Rattle.report.specs.Replies.{inputOf, saidLength, said, Replied}
 use Rattle.report.proofs.Digits.{digits-word}
 use Rattle.report.proofs.LineLaws.{length-two}
-use Rattle.flatpack_text.proofs.Placing.{length-placed}
-use Rattle.report.proofs.Packs.{plain, full, table-at, qubit-number, qubit-same, slot-same}
+use Rattle.report.proofs.Packs.{plain, full, plain-long, full-long, table-at, qubit-number, qubit-same, slot-same}
 
 outside-min : (p : ℕ) → outside (min p 257) ≡ outside p
 unfolding outside
@@ -137,7 +137,7 @@ module _ (es : List Entry) (d table : List ℕ) (few : length es ≤ 256) (room 
       packed : (ℕ → ℕ) → (ℕ → flat.Slot) → Flatpack
       packed f g = record { n = n; qubit = f; slot = g }
 
-  tree-same : treeOf i ≡ tree es
+  pub tree-same : treeOf i ≡ tree es
   tree-same = ap (flatTree true) pack-same
 
   -- ---- the refusals
@@ -145,7 +145,7 @@ module _ (es : List Entry) (d table : List ℕ) (few : length es ≤ 256) (room 
   abbrev sizes : Bool
   sizes = outside n || (outside (qubits es) || reaching es 256)
 
-  reach-same : (b : ℕ) → reaches entries n b ≡ reaching es b
+  pub reach-same : (b : ℕ) → reaches entries n b ≡ reaching es b
   unfolding reaches
   reach-same b = ap (λ (f : ℕ → ℕ). someBelow n (λ k. leb b (f k))) (fun-ext qubits-same)
 
@@ -176,11 +176,9 @@ module _ (es : List Entry) (d table : List ℕ) (few : length es ≤ 256) (room 
         let w : wordsFor (used table n) ≤ 4 = omega arith in
         let a : 2 * n * wordsFor (used table n) ≤ 2048 = omega (arith, mul-le-mul-left (2 * n) w) in
         let b : 4 * n * wordsFor (used table n) ≤ 4096 = omega (arith, mul-le-mul-left (4 * n) w) in
-        let e : length entries ≡ 1024 = length-placed (plainAt table) (4 * n) (replicate 1024 0) ∙ length-replicate {A = ℕ} 1024 0 in
-        let f : length filled ≡ 768 = length-placed (filledAt table) (3 * n) (replicate 768 false) ∙ length-replicate 768 false in
         rw (
-          e,
-          f,
+          plain-long es d table few room holds,
+          full-long es d table few room holds,
           le-ltb 1024 (4 * n) (omega arith),
           le-ltb 768 (3 * n) (omega arith),
           le-ltb 2048 (2 * n * wordsFor (used table n)) a,
@@ -189,7 +187,7 @@ module _ (es : List Entry) (d table : List ℕ) (few : length es ≤ 256) (room 
           le-ltb 4096 (4 * n * wordsFor (used table n)) b,
         )
 
-  answer-same : answer i ≡ verdict es
+  pub answer-same : answer i ≡ verdict es
   unfolding answer verdict
   answer-same = go sizes refl
     where
@@ -239,8 +237,8 @@ module _ (es : List Entry) (d table : List ℕ) (few : length es ≤ 256) (room 
 
 -- ---- more than 256 entries
 
-module _ (es : List Entry) (n : ℕ) (table out : List ℕ) (count : 256 < n) (many : 256 < length es) (wide : 164480 ≤ length out) where
-  outside-high : (k : ℕ) → 256 < k → outside k ≡ true
+module _ (es : List Entry) (n : ℕ) (table : List ℕ) (count : 256 < n) (many : 256 < length es) where
+  pub outside-high : (k : ℕ) → 256 < k → outside k ≡ true
   unfolding outside
   outside-high k h = let z : k ≡ 0 → ⊥ = λ e. omega arith in rw (ne-eqb k 0 z, lt-ltb 256 k h)
 
@@ -248,13 +246,17 @@ module _ (es : List Entry) (n : ℕ) (table out : List ℕ) (count : 256 < n) (m
   unfolding answer badSize inputOf
   answer-one = rw (outside-high n count)
 
-  verdict-one : verdict es ≡ bare 1
+  pub verdict-one : verdict es ≡ bare 1
   unfolding verdict
   verdict-one = rw (outside-high (length es) many)
 
-  pub many-whole : (q : ℕ) (row : ℕ → Row) → Whole (answerText es) out (saidLength (answer (inputOf n table)) n q row 0 out) (said (answer (inputOf n table)) n q row 0 out)
+  pub many-verdict : answer (inputOf n table) ≡ verdict es
+  many-verdict = answer-one ∙ sym verdict-one
+
+  pub many-whole : (out : List ℕ) → 164480 ≤ length out → (q : ℕ) (row : ℕ → Row)
+      → Whole (answerText es) out (saidLength (answer (inputOf n table)) n q row 0 out) (said (answer (inputOf n table)) n q row 0 out)
   unfolding answerText
-  many-whole q row = rw (answer-one, verdict-one) (refused-whole 1 out (leb-true 1 18 refl) wide)
+  many-whole out wide q row = rw (answer-one, verdict-one) (refused-whole 1 out (leb-true 1 18 refl) wide)
 
 -- ---- the output of a text
 
@@ -282,7 +284,7 @@ module _ (es : List Entry) (d table out : List ℕ) (room : 1024 ≤ length d) (
       go : (b : Bool) → ltb 256 (length es) ≡ b → Whole (answerText es) out (r .length) after
       go true e =
           let h = ltb-true 256 (length es) e in
-          join-whole (answerText es) out (s .0) (s .1) (many-whole es (min (length es) most) table out (omega arith) h wide (inputOf (min (length es) most) table .q) (rows true (treeOf (inputOf (min (length es) most) table)) .row))
+          join-whole (answerText es) out (s .0) (s .1) (many-whole es (min (length es) most) table (omega arith) h out wide (inputOf (min (length es) most) table .q) (rows true (treeOf (inputOf (min (length es) most) table)) .row))
       go false e = let h = ltb-false 256 (length es) e in few-output h (min (length es) most) (omega arith) s
 
 -- the reply to what reading a text told, with the table that reading it left, is the text's output
@@ -296,3 +298,33 @@ reply-whole t d table out {r} {after} holds room wide h = go (linesOf (lines t .
     go : (b : Bool) → Replied (told (cond b (wellFormed es) (malformed (suc (length es))))) table out r after → Whole (outputOf (cond b (wellFormed es) (malformed (suc (length es))))) out (r .length) after
     go true h = entries-output es d table out room holds wide r after (h .length, h .bytes, h .number)
     go false h = join-whole (refusedLine 16) out (h .length) (h .bytes) (refused-whole 16 out (leb-true 16 18 refl) wide)
+
+-- ---- its number and line
+
+-- the answer to the entries of a text is their verdict
+answer-verdict : (es : List Entry) (d table : List ℕ) → 1024 ≤ length d → table ≡ copied d (numbersOf (take 256 es)) → answer (inputOf (min (length es) most) table) ≡ verdict es
+answer-verdict es d table room holds = go (ltb 256 (length es)) refl
+  where
+    go : (b : Bool) → ltb 256 (length es) ≡ b → answer (inputOf (min (length es) most) table) ≡ verdict es
+    go true e = many-verdict es (min (length es) most) table (let h = ltb-true 256 (length es) e in omega arith) (ltb-true 256 (length es) e)
+    go false e =
+        let few = ltb-false 256 (length es) e in
+        let all : table ≡ copied d (numbersOf es) = holds ∙ ap (λ (l : List Entry). copied d (numbersOf l)) (take-all 256 es few) in
+        let count : min (length es) most ≡ length es = omega arith in
+        ap (λ (n : ℕ). answer (inputOf n table)) count ∙ ap answer (input-is es d table few room all) ∙ answer-same es d table few room all
+
+-- the reply's number is the text's, and its line the one that is told
+pub reply-numbered : (t d table out : List ℕ) {r : Reply} {after : List ℕ} → table ≡ kept t d → 1024 ≤ length d → Replied (told (parse t)) table out r after
+    → (answered (r .answer) ≡ verdictOf (parse t)) × (r .line ≡ told (parse t) .line)
+unfolding parse kept
+reply-numbered t d table out {r} {after} holds room h = go (linesOf (lines t .ended) .all && isEmpty (lines t .rest)) h
+  where
+    es : List Entry
+    es = linesOf (lines t .ended) .entries
+
+    parsed : Bool → Parsed
+    parsed b = cond b (wellFormed es) (malformed (suc (length es)))
+
+    go : (b : Bool) → Replied (told (parsed b)) table out r after → (answered (r .answer) ≡ verdictOf (parsed b)) × (r .line ≡ told (parsed b) .line)
+    go true h = (h .number ∙ answer-verdict es d table room holds, h .line)
+    go false h = (h .number, h .line)

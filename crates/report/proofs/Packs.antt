@@ -82,6 +82,12 @@ module _ (es : List Entry) (d table : List ℕ) (few : length es ≤ 256) (room 
   abbrev pub full : List Bool
   full = placed (filledAt table) (3 * length es) (replicate 768 false)
 
+  pub plain-long : length plain ≡ 1024
+  plain-long = length-placed (plainAt table) (4 * length es) (replicate 1024 0) ∙ length-replicate {A = ℕ} 1024 0
+
+  pub full-long : length full ≡ 768
+  full-long = length-placed (filledAt table) (3 * length es) (replicate 768 false) ∙ length-replicate 768 false
+
   pub qubit-same : (j : ℕ) → qubitAt plain j ≡ pack es .qubit j
   unfolding plainAt
   qubit-same j = go (ltb j (length es)) refl

@@ -1,42 +1,33 @@
 -- What is written for a tree that was built: its rows are read back from the words that they lie in.
-use Prim.Native.Nat.{ℕ, zero, suc, _*_, _^_, _≤_, _<_, min}
-use native.Mathlib.Nat.{lt-of-lt-of-le}
+use Prim.Native.Nat.{ℕ, zero, suc, _*_, _<_, min}
 use native.Mathlib.Omega.{arith}
 use mathlib.Core.Path.{_≡_, refl, sym, ap, _∙_, subst}
 use mathlib.Core.List.{List, [], _∷_}
 use mathlib.Core.Bool.{Bool, true, false}
-use lib.Dec.{eqb, ltb, leb}
-use lib.Pow.{pow-mono}
-use lib.ListN.{length, getD, replicate}
-use borrow.Author.Tests.{leb-false, eqb-false}
+use lib.ListN.{length, replicate}
 use Rattle.refusal.specs.declared.Answer.{Answer}
 use Rattle.refusal.specs.declared.Answer.the-variants.{Done, Refused}
 use Rattle.refusal.specs.declared.Refusal.{Refusal}
 use Rattle.refusal.specs.declared.Refusal.the-variants.{Malformed as NotWell}
 use Rattle.refusal.specs.Numbers.{Paper, paper, answered}
-use Rattle.refusal.specs.Search.{Least, found, none, leastBelow}
-use Rattle.refusal.specs.Table.{Rule, _gives_, firstOf, ifZero}
-use Rattle.refusal.proofs.Bools.{or-left, or-right}
-use Rattle.refusal.proofs.Searches.{none-at, least-found}
+use Rattle.refusal.specs.Table.{ifZero}
 use Rattle.refusal.proofs.Outcome.{refused-number}
 use Rattle.algebra.specs.Rows.{Row}
 use Rattle.algebra.specs.Modes.{Modes}
-use Rattle.dense_block.specs.Words.{value, wordsFor, termOf, zeroed}
-use Rattle.dense_block.proofs.Values.{words-hold}
-use Rattle.dense_block.proofs.Blocks.{row-laid, number-listed}
-use Rattle.trees.specs.Trees.{onward, Tree, leafIn, is, rowOf as leafRow}
-use Rattle.trees.specs.Leaves.{namedSlot, slotOf, rows}
-use Rattle.tree_sizes.specs.Sizes.{outside, reaches, qubitAt}
-use Rattle.ternarytree.specs.Building.{Input, given, treeOf, badSize, badQubits, tooShort, treeChecks, answer, settled, FlatBuilt}
-use Rattle.trees.proofs.Bounds.{Within, low-row}
+use Rattle.dense_block.specs.Words.{value, wordsFor, zeroed}
+use Rattle.trees.specs.Leaves.{rows}
+use Rattle.ternarytree.specs.Building.{Input, given, treeOf, answer, settled, FlatBuilt}
+use Rattle.ternarytree.proofs.Theorems.{flatpack-stored}
 use Rattle.report.specs.Report.{rowIn, rowLines, report, refusedLine, wrote, written, reportLength, reported}
 use Rattle.flatpack_text.specs.Entries.{placed, plainAt, filledAt, used}
 use Rattle.flatpack_text.specs.declared.read.State.{State}
 use Rattle.flatpack_text.specs.declared.read.Text.{Text}
 use Rattle.flatpack_text.specs.declared.read.Text.the-variants.{Entries, Malformed}
 use Rattle.report.specs.declared.reply.Reply.{Reply}
-use Rattle.flatpack_text.specs.Machine.{Told, textPaper, finished, Finishes}
-use Rattle.report.specs.Output.{saidLength, said, inputOf, Builds, Replied}
+use Rattle.flatpack_text.specs.Machine.{Told, textPaper}
+use Rattle.flatpack_text.specs.Moves.{finished}
+use Rattle.flatpack_text.specs.Calls.{Finishes}
+use Rattle.report.specs.Replies.{saidLength, said, inputOf, Builds, Replied}
 
 -- ---- done, or refused
 
@@ -68,38 +59,6 @@ report-same n q f g v h = rw (lines-same q f g (2 * n) h)
 
 -- ---- a tree that was built
 
-slot-low : (t : Tree) (m : ℕ) → 0 < t .n → namedSlot t m < 3 * t .n
-unfolding namedSlot leafIn
-slot-low t m h = go (leastBelow (3 * t .n) (λ k. is m (leafRow (t .child k)))) refl
-  where
-    go : (o : Least) → leastBelow (3 * t .n) (λ k. is m (leafRow (t .child k))) ≡ o → onward o 0 (λ k. k) < 3 * t .n
-    go (found k) e = least-found (3 * t .n) _ k e .low
-    go none e = omega arith
-
-row-low : (t : Tree) (q m : ℕ) → 0 < t .n → ((i : ℕ) → i < t .n → t .qubit i < q) → Within q (rows true t .row m)
-unfolding slotOf
-row-low t q m h c = low-row t q c (namedSlot t m) (slot-low t m h)
-
--- what it passed
-record Sized (i : Input) : Type 0 where
-  some-mode : 0 < i .n
-  columns : (k : ℕ) → k < i .n → qubitAt (i .es) k < i .q
-
-sized : (i : Input) → answer i .number ≡ 0 → Sized i
-unfolding answer badSize badQubits outside reaches
-sized i h =
-    let r = go (badSize i) (tooShort i) (badQubits i) (treeChecks (i .leaves) (treeOf i)) h in
-    record {
-      some-mode = let z = eqb-false (i .n) 0 (or-left (eqb (i .n) 0) _ (or-left (outside (i .n)) _ (r .0))) in omega arith;
-      columns = λ k l. leb-false _ _ (none-at (i .n) (λ k. leb (i .q) (qubitAt (i .es) k)) (or-right (ltb (i .q) (i .n)) _ (r .1)) k l);
-    }
-  where
-    go : (size short qubits : Bool) (rules : List Rule) → firstOf ((size gives 1) ∷ (short gives 2) ∷ (qubits gives 3) ∷ rules) .number ≡ 0 → (size ≡ false) × (qubits ≡ false)
-    go true short qubits rules h = absurd (omega arith)
-    go false true qubits rules h = absurd (omega arith)
-    go false false true rules h = absurd (omega arith)
-    go false false false rules h = (refl, refl)
-
 value-zero : (n : ℕ) (ws : List ℕ) → value ws ≡ 0 → value (zeroed n ws) ≡ 0
 value-zero zero ws h = h
 value-zero (suc n) [] h = refl
@@ -109,30 +68,23 @@ value-zero (suc n) (u ∷ ws) h = let z : value (zeroed n ws) ≡ 0 = value-zero
 on-done : {A : Type 0} (p : Paper) (new zeros old : A) {e : A} → p .number ≡ 0 → e ≡ settled p new zeros old → e ≡ new
 on-done p new zeros old h s = s ∙ rw h
 
--- built with leaves, from outputs whose vacuum is zero
-module _ (i : Input) (leaves : i .leaves ≡ true) (clear : value (i .out .vs) ≡ 0) {r : Answer} {xs zs ps vs room : List ℕ} (b : FlatBuilt i r xs zs ps vs room) where
+done-of : (r : Answer) → answered r .number ≡ 0 → r ≡ Done
+done-of Done h = refl
+done-of (Refused why) h = absurd (refused-number why h)
+
+-- built, from outputs whose vacuum is zero
+module _ (i : Input) (clear : value (i .out .vs) ≡ 0) {r : Answer} {xs zs ps vs room : List ℕ} (b : FlatBuilt i r xs zs ps vs room) where
   abbrev m : Modes
   m = rows (i .leaves) (treeOf i)
 
   abbrev w : ℕ
   w = wordsFor (i .q)
 
-  low : answer i .number ≡ 0 → (k : ℕ) → Within (i .q) (m .row k)
-  low h k =
-      let s = sized i h in
-      subst (λ (l : Bool). Within (i .q) (rows l (treeOf i) .row k)) (sym leaves) (row-low (treeOf i) (i .q) k (s .some-mode) (s .columns))
-
   -- done: each row is read back from its phase and its words
   row-read : answer i .number ≡ 0 → (k : ℕ) → k < 2 * i .n → rowIn (i .q) xs zs ps k ≡ m .row k
   row-read h k l =
-      let wide : 2 ^ i .q ≤ 2 ^ (64 * w) = pow-mono (words-hold (i .q)) in
-      let px : value (termOf w xs k) ≡ m .row k .x =
-      ap (λ (ws : List ℕ). value (termOf w ws k)) (on-done (answer i) _ _ _ h (b .x-parts)) ∙ row-laid w (λ k. m .row k .x) (2 * i .n) k (i .out .xs) l (lt-of-lt-of-le (low h k .x-low) wide) in
-      let pz : value (termOf w zs k) ≡ m .row k .z =
-      ap (λ (ws : List ℕ). value (termOf w ws k)) (on-done (answer i) _ _ _ h (b .z-parts)) ∙ row-laid w (λ k. m .row k .z) (2 * i .n) k (i .out .zs) l (lt-of-lt-of-le (low h k .z-low) wide) in
-      let pp : getD ps k 0 ≡ m .row k .p =
-      ap (λ (ws : List ℕ). getD ws k 0) (on-done (answer i) _ _ _ h (b .phases)) ∙ number-listed (λ k. m .row k .p) (2 * i .n) k _ l in
-      row-is px pz pp
+      let stored = flatpack-stored i r xs zs ps vs room b (done-of r (ap (λ (p : Paper). p .number) (b .told) ∙ h)) in
+      row-is (stored .x-part k l) (stored .z-part k l) (stored .phase k l)
     where
       row-is : {p x z : ℕ} {o : Row} → x ≡ o .x → z ≡ o .z → p ≡ o .p → _≡_ {A = Row} (record { p = p; x = x; z = z }) o
       row-is px pz pp = rw (px, pz, pp)
@@ -171,7 +123,7 @@ builds n table out {q} {len} {es} {fs} {r} {xs} {zs} {ps} {vs} {room} {after} hq
     let i = inputOf n table in
     let same : _≡_ {A = Input} (given true n q es fs (replicate 2048 0) (replicate 2048 0) (replicate 512 0) (replicate 4 0) (replicate 4096 0)) i = rw (hq, he, hf) in
     let c : FlatBuilt i r xs zs ps vs room = subst (λ (i : Input). FlatBuilt i r xs zs ps vs room) same b in
-    let both = said-rows i refl refl c out in
+    let both = said-rows i refl c out in
     record {
       told-number = c .told;
       told-line = refl;

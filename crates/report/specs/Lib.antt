@@ -2,3 +2,4 @@ pub mod Report
 pub mod Explain
 pub mod Output
 pub mod Located
+pub mod Replies

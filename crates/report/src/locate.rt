@@ -1,4 +1,4 @@
-// Where in a text a refusal was found: the line that is no entry, or the line and slot of the first slot at fault.
+// Where in a text a refusal was found: the line that is no entry, or the line and slot for which its entries are refused.
 
 use crate::explain::Spot;
 use flatpack_text::flatpack;
@@ -9,8 +9,9 @@ use ternarytree::Place;
 ghost use mathlib.Core.Path.{_≡_};
 ghost use Rattle.refusal.specs.Search.{found};
 ghost use Rattle.ternarytree.specs.Building.{placed};
-ghost use Rattle.flatpack_text.specs.Machine.{finished};
-ghost use Rattle.report.specs.Located.{spotOf, faultAt, locatedAt, located};
+ghost use Rattle.flatpack_text.specs.Moves.{finished};
+ghost use Rattle.report.specs.Located.{spotOf, locatedAt};
+ghost use Rattle.report.specs.Replies.{faultAt, located};
 
 // A line, 0 if it is not known where, and what of it.
 pub struct Site {
@@ -65,7 +66,8 @@ fn site_of(p: Place) -> Site
     }
 }
 
-// Where a text is at fault, from the state after it and the table of its first 256 entries. Line 0 if no line or slot is.
+// Where a text is at fault, from the state after it and the table of its first 256 entries: the line that is no entry, or the first slot at fault if its entries are refused for it. Line 0 if
+// they are refused for no slot.
 pub fn locate(s: State, table: &[usize]) -> Site
     ensures { λ r. ⌜ r ≡ located (finished s) (now (table .entry)) ⌝ }
 {

@@ -11,8 +11,8 @@ ghost use mathlib.Core.Path.{_≡_};
 ghost use Rattle.refusal.specs.Numbers.{answered};
 ghost use Rattle.dense_block.specs.Words.{value};
 ghost use Rattle.report.specs.Report.{rowIn};
-ghost use Rattle.report.specs.Output.{saidLength, said, Builds, Replied};
-ghost use Rattle.flatpack_text.specs.Machine.{finished};
+ghost use Rattle.report.specs.Replies.{saidLength, said, Builds, Replied};
+ghost use Rattle.flatpack_text.specs.Moves.{finished};
 
 pub struct Reply {
     pub answer: Answer,

@@ -1,95 +1,140 @@
 // Reads flatpack text with leaves from standard input to its end and writes the report of its rows, or `refused`, a tab and the number of the refusal. What a refusal means,
 // and where it was found if that is known, goes to standard error. Nothing is written before the answer is known.
 
-use flatpack_text::read;
-use flatpack_text::read::State;
 use libc::STDERR_FILENO;
 use libc::STDIN_FILENO;
 use libc::STDOUT_FILENO;
-use refusal::Answer;
-use report::explain;
-use report::locate;
-use report::reply;
+use rowreport_core::Reading;
+ghost use mathlib.Core.Path.{_≡_};
+ghost use Rattle.rowreport.specs.Reads.{Turned, Gathered};
 
 // What a read of standard input comes to.
 enum Step {
-    // A chunk was fed.
-    More(State),
+    // A chunk was taken.
+    More,
     // The text is at its end.
-    End(State),
+    End,
     Failed,
 }
 
-// Writes the first k bytes of a buffer.
-fn show(fd: i32, out: &[u8], k: usize) {
-    if k <= out.len() {
-        io::write_all(fd, &out[..k]);
-    }
+// What is held after a read.
+struct Turn {
+    reading: Reading,
+    step: Step,
 }
 
-// Reads one chunk and feeds it.
-fn feed_some(s: State, table: &mut [usize]) -> Step {
-    let mut chunk = io::large_buffer();
+// What is held at the end, and how many chunks were taken; or the input could not be read to its end.
+struct Whole {
+    reading: Reading,
+    chunks: u64,
+    failed: bool,
+}
+
+// Reads one chunk and takes it.
+fn take_some(r: Reading) -> Turn
+    ensures { λ t. ⌜ Turned r (t .step) (t .reading) ⌝ }
+{
+    let mut chunk = [0u8; 512];
     let got = libc::read(STDIN_FILENO, &mut chunk);
     if got < 0 {
-        return Step::Failed;
-    }
-    if got == 0 {
-        return Step::End(s);
+        return Turn {
+            reading: r,
+            step: Step::Failed,
+        };
     }
     let n = io::count(got, &chunk);
-    Step::More(read::feed(s, &chunk[..n], table))
+    if n == 0 {
+        return Turn {
+            reading: r,
+            step: Step::End,
+        };
+    }
+    Turn {
+        reading: rowreport_core::take(r, &chunk[..n]),
+        step: Step::More,
+    }
 }
 
-// Reads to the end. A proved loop has to end, and nothing says that a text does: so it counts down, from a number that no run uses up.
-fn feed_all(table: &mut [usize]) -> Step {
-    let mut s = read::start();
-    let mut turns = u64::MAX;
-    while turns > 0 {
-        match feed_some(s, table) {
-            Step::More(t) => {
-                s = t;
+// Reads to the end. A proved loop has to end, and nothing says that a text does: so it counts, as far as a number that no run reaches.
+fn take_all() -> Whole
+    ensures { λ w. ⌜ Gathered w ⌝ }
+{
+    let mut reading = rowreport_core::begin();
+    let mut chunks = 0;
+    while chunks < u64::MAX {
+        let turn = take_some(reading);
+        let held = turn.reading;
+        let step = turn.step;
+        match step {
+            Step::More => {
+                reading = held;
             }
-            Step::End(t) => {
-                return Step::End(t);
+            Step::End => {
+                return Whole {
+                    reading,
+                    chunks,
+                    failed: false,
+                };
             }
             Step::Failed => {
-                return Step::Failed;
+                return Whole {
+                    reading,
+                    chunks,
+                    failed: true,
+                };
             }
         }
-        turns -= 1;
+        chunks += 1;
     }
-    Step::Failed
+    Whole {
+        reading,
+        chunks,
+        failed: true,
+    }
 }
 
-// Writes the reply to a text, and says what a refusal means.
-fn answer(s: State, table: &[usize]) {
-    let mut out = [0u8; 164480];
-    let r = reply::respond(s, table, &mut out);
-    show(STDOUT_FILENO, &out, r.length);
-    let a = r.answer;
-    match a {
-        Answer::Done => {}
-        Answer::Refused(why) => {
-            let site = locate::locate(s, table);
-            let line = site.line;
-            let spot = site.spot;
-            let k = explain::explain(why, line, spot, &mut out);
-            show(STDERR_FILENO, &out, k);
-        }
+// Writes the first k bytes of the text for standard output: all of them, or it says that it could not.
+fn to_output(text: &[u8; 164480], k: usize) -> bool {
+    let bytes: &[u8] = text;
+    if k <= bytes.len() {
+        return io::write_all(STDOUT_FILENO, &bytes[..k]);
+    }
+    false
+}
+
+// The same of the text for standard error.
+fn to_error(text: &[u8; 256], k: usize) -> bool {
+    let bytes: &[u8] = text;
+    if k <= bytes.len() {
+        return io::write_all(STDERR_FILENO, &bytes[..k]);
+    }
+    false
+}
+
+// Writes what is answered to a text.
+fn answer(r: Reading) {
+    let mut output = [0u8; 164480];
+    let mut error = [0u8; 256];
+    let lengths = rowreport_core::texts(r, &mut output, &mut error);
+    if to_output(&output, lengths.output) {
+        to_error(&error, lengths.error);
+    } else {
+        io::write_all(
+            STDERR_FILENO,
+            b"rowreport: standard output cannot be written.\n",
+        );
     }
 }
 
 fn main() {
-    let mut table = [0usize; 1024];
-    match feed_all(&mut table) {
-        Step::End(s) => answer(s, &table),
-        Step::More(_) => {}
-        Step::Failed => {
-            io::write_all(
-                STDERR_FILENO,
-                b"rowreport: standard input cannot be read.\n",
-            );
-        }
+    let whole = take_all();
+    if whole.failed {
+        io::write_all(
+            STDERR_FILENO,
+            b"rowreport: standard input cannot be read.\n",
+        );
+        return;
     }
+    let r = whole.reading;
+    answer(r);
 }

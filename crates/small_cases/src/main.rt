@@ -1,5 +1,5 @@
 // Runs the small cases worked by hand through the calls, and writes a line for each: the number handed back and then what was written. proofs/Cases.antt proves those
-// of them that are proved, over the definitions that the contracts cite. Bits are written as numbers, column 0 lowest.
+// of them that are proved, at the contracts of the calls. Bits are written as numbers, column 0 lowest.
 
 use majorana::Encoded;
 use pauli::Marked;

@@ -1,7 +1,9 @@
--- The answers of building: which of 1, 2 and 3 refuses, what is left then, and that past 1 and 2 the room is cleared whatever the answer.
+-- The answers of building: which of 1, 2 and 3 refuses, what is left then, that past 1 and 2 the room is cleared whatever the answer, and that past 3 the tests of
+-- the tree decide.
 use Prim.Native.Nat.{ℕ, _*_, _/_, _<_, _≤_}
 use native.Mathlib.Omega.{arith}
 use mathlib.Core.Path.{_≡_, refl, sym, _∙_}
+use mathlib.Core.Logic.{_≢_}
 use mathlib.Core.Bool.{Bool, true, false, _||_}
 use mathlib.Core.List.{List, [], _∷_}
 use borrow.Author.Tests.{ltb-true, leb-false, ne-eqb}
@@ -21,8 +23,8 @@ use Rattle.trees.specs.Leaves.{rows}
 use Rattle.trees.specs.Named.{namedTree}
 use Rattle.tree_sizes.proofs.SizeLaws.{inside}
 use Rattle.tree_sizes.specs.Sizes.{outside, qubitAt, reaches, unreadable}
-use Rattle.ternarytree.specs.Building.{needed, treeChecks, Input, treeOf, badSize, tooShort, badQubits, answer, FlatBuilt, NamedInput, namedAnswer, NamedBuilt}
-use Rattle.ternarytree.specs.Tables.{AtMost, flat, flatTask, TreeBuilt}
+use Rattle.ternarytree.specs.Building.{needed, treeChecks, Input, flat, treeOf, badSize, tooShort, badQubits, answer, FlatBuilt, NamedInput, namedAnswer, NamedBuilt}
+use Rattle.ternarytree.specs.Tables.{AtMost, flatTask, TreeBuilt}
 use Rattle.ternarytree.proofs.Verdicts.{fault-number}
 
 -- ---- sizes
@@ -103,6 +105,24 @@ module _ (i : Input) where
         vacuum = b .vacuum;
         work = e ∙ sym (late-past ((ltb (i .q) (i .n) || reaches (i .es) (i .n) (i .q) gives 3) ∷ treeChecks (i .leaves) (treeOf i)) (λ e. omega arith, tree-late (i .leaves) (treeOf i)) _ _);
       })
+
+-- an answer that is none of 1, 2 and 3 is that of the tests of the tree
+pub record Tested (i : Input) : Type 0 where
+  pub size : badSize i ≡ false
+  pub long : tooShort i ≡ false
+  pub qubits : badQubits i ≡ false
+  pub by-tree : answer i ≡ firstOf (treeChecks (i .leaves) (treeOf i))
+
+pub tested : (i : Input) → answer i .number ≢ 1 → answer i .number ≢ 2 → answer i .number ≢ 3 → Tested i
+unfolding answer
+tested i = go (badSize i) (tooShort i) (badQubits i) refl refl refl
+  where
+    go : (a b c : Bool) → badSize i ≡ a → tooShort i ≡ b → badQubits i ≡ c → let p = firstOf ((a gives 1) ∷ (b gives 2) ∷ (c gives 3) ∷ treeChecks (i .leaves) (treeOf i)) in
+        p .number ≢ 1 → p .number ≢ 2 → p .number ≢ 3 → Tested i
+    go true b c e f g one two three = absurd (one refl)
+    go false true c e f g one two three = absurd (two refl)
+    go false false true e f g one two three = absurd (three refl)
+    go false false false e f g one two three = record { size = e; long = f; qubits = g; by-tree = rw (e, f, g) }
 
 -- ---- named trees
 

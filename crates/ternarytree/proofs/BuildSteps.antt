@@ -19,7 +19,8 @@ use Rattle.trees.specs.Leaves.{slotOf, rows}
 use Rattle.trees.specs.declared.Named.{Named}
 use Rattle.trees.specs.Named.{namedTree}
 use Rattle.tree_sizes.specs.Sizes.{qubitAt}
-use Rattle.ternarytree.specs.Tables.{nth, AtMost, flat, Wired, Slots, Planted, RowsWritten, StoredX, Ready, rowsAnswer, TreeBuilt}
+use Rattle.ternarytree.specs.Building.{flat}
+use Rattle.ternarytree.specs.Tables.{nth, AtMost, Wired, Slots, Planted, RowsWritten, StoredX, Ready, rowsAnswer, TreeBuilt}
 use Rattle.ternarytree.proofs.ClimbSteps.{wired-parents}
 use Rattle.trees.proofs.Bounds.{Within, low-row}
 

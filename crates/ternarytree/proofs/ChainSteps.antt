@@ -6,11 +6,10 @@ use mathlib.Core.Logic.{_≢_}
 use mathlib.Core.Bool.{true, false}
 use mathlib.Core.List.{List}
 use Rattle.refusal.specs.Search.{Least, found, none}
-use Rattle.trees.specs.Trees.{onward, nodeOf, Tree, leafIn, missing}
+use Rattle.trees.specs.Trees.{onward, nodeOf, Tree, leafIn, missing, Closed}
 use Rattle.trees.specs.Leaves.{namedSlot, zEnd, chainEnd, slotOf}
 use Rattle.ternarytree.specs.Tables.{nth, code, AtMost, Children, Wired, Slots}
 use Rattle.ternarytree.proofs.Codes.{code-none}
-use Rattle.trees.proofs.Naive.{Closed}
 use Rattle.trees.proofs.WithLeaves.{leaf-slot}
 
 -- the end of the chain from slot s with l steps left

@@ -19,8 +19,8 @@ use Rattle.trees.specs.declared.Slot.{Slot}
 use Rattle.trees.specs.declared.Slot.the-variants.{Blank as blank, Number as number}
 use Rattle.trees.specs.Flatpacks.{Flatpack, entryIn, past, leafNumbered, unnamed, named, childOf}
 use Rattle.tree_sizes.specs.Sizes.{qubitAt}
-use Rattle.ternarytree.specs.Building.{slotAt}
-use Rattle.ternarytree.specs.Tables.{code, uncode, Holds, AtMost, childIn, flat}
+use Rattle.ternarytree.specs.Building.{slotAt, flat}
+use Rattle.ternarytree.specs.Tables.{code, uncode, Holds, AtMost, childIn}
 use Rattle.ternarytree.proofs.Codes.{code-none, uncode-code, mark}
 
 module _ (qubit : ℕ → ℕ) where

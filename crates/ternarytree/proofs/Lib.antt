@@ -13,4 +13,5 @@ pub mod PlantSteps
 pub mod BuildSteps
 pub mod Verdicts
 pub mod Answers
+pub mod Faults
 pub mod Theorems

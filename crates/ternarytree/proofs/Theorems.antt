@@ -1,9 +1,9 @@
--- What the three calls of this crate promise together. Below, a call is its contract: `FlatBuilt` of from_flatpack and from_flatpack_naive, `NamedBuilt` of from_name, with
--- the answer r and the slices as they are left.
+-- What the calls of this crate that build promise together. Below, a call is its contract: `FlatBuilt` of from_flatpack and from_flatpack_naive, `NamedBuilt` of
+-- from_name, with the answer r and the slices as they are left.
 --
 -- In plain words: no input leaves two outcomes. A tree is never refused by 10 or 11, since its rows anticommute in pairs and so are independent; a naive tree is
 -- never refused by 13 either; and a named tree of 1 to 256 nodes, asked for with at least as many qubits, is done. Where the answer is done, row k of the words and
--- phases that are written is row k of the tree.
+-- phases that are written is row k of the tree. What find_fault promises is in Faults.
 --
 -- The theorems that these rest on, over trees of any size:
 --   OneRoot     what refusal 8 means: `scattered` is false exactly if there is a root from which all nodes hang
@@ -11,8 +11,10 @@
 --   WithLeaves  leaves-anticommute: the rows of a tree with leaves that passes its tests anticommute in pairs
 --   Naive       naive-anticommute, naive-vacuum: the rows of a naive tree do so too, and meet the vacuum rule at zero
 --   NamedTrees  named-passes: the four named trees pass the tests, for every n
---   Fit         naive-faithful, named-faithful: on naive and named trees every occupation list encodes and decodes
+--   Fit         naive-faithful, named-faithful, leaves-faithful: every occupation list encodes and decodes, on a tree with leaves if 13 is not given;
+--               root-chain-empty: the Z chain of a naive tree's root ends empty
 use Prim.Native.Nat.{ℕ, _*_, _<_, _≤_}
+use native.Mathlib.Nat.{lt-of-lt-of-le}
 use native.Mathlib.Omega.{arith}
 use native.Mathlib.Decide.{ℕ-discrete}
 use mathlib.Core.Path.{_≡_, refl, sym, ap, _∙_}
@@ -22,6 +24,7 @@ use mathlib.Core.List.{List, [], _∷_}
 use borrow.Author.Tests.{ne-eqb, le-ltb, leb-false}
 use lib.Dec.{leb, ltb}
 use lib.ListN.{getD, drop}
+use lib.Pow.{pow-mono}
 use Rattle.refusal.specs.declared.Answer.{Answer}
 use Rattle.refusal.specs.declared.Answer.the-variants.{Done}
 use Rattle.refusal.specs.Numbers.{Paper, bare, answered}
@@ -29,11 +32,12 @@ use Rattle.refusal.specs.Table.{_gives_, firstOf, short}
 use Rattle.refusal.proofs.Bools.{or-right}
 use Rattle.refusal.proofs.Searches.{none-at}
 use Rattle.refusal.proofs.Outcome.{one-outcome, answered-injective}
-use Rattle.algebra.specs.Modes.{Modes, vacuumRule}
+use Rattle.algebra.specs.Modes.{Modes, vacuumRule, Majorana}
 use Rattle.dense_block.specs.Words.{value, wordsFor, zeroed, termOf}
 use Rattle.dense_block.specs.Blocks.{laid, listed}
+use Rattle.dense_block.proofs.Values.{words-hold}
 use Rattle.dense_block.proofs.Blocks.{row-laid, number-listed}
-use Rattle.trees.specs.Trees.{Tree}
+use Rattle.trees.specs.Trees.{Tree, Closed}
 use Rattle.trees.specs.Leaves.{slotOf, rows}
 use Rattle.trees.specs.declared.Named.{Named}
 use Rattle.trees.specs.Named.{namedTree}
@@ -41,13 +45,14 @@ use Rattle.tree_sizes.specs.Sizes.{outside, qubitAt, reaches}
 use Rattle.ternarytree.specs.Building.{Outputs, needed, Built, treeChecks, Input, packOf, treeOf, badSize, tooShort, badQubits, answer, FlatBuilt, NamedInput, namedAnswer, NamedBuilt}
 use Rattle.ternarytree.specs.Tables.{verdict}
 use Rattle.trees.proofs.Sound.{sound}
-use Rattle.trees.proofs.Naive.{Closed, naive-low}
+use Rattle.trees.proofs.Naive.{naive-low}
 use Rattle.trees.proofs.WithLeaves.{leaf-slot}
 use Rattle.trees.proofs.Bounds.{Within, low-row}
 use Rattle.trees.proofs.Flats.{flatpack-closed}
 use Rattle.trees.proofs.NamedTrees.{named-passes}
 use Rattle.trees.proofs.Fit.{naive-meets, named-closed, named-checked, named-meets}
 use Rattle.ternarytree.proofs.Verdicts.{Passed, verdict-number, verdict-refuses, verdict-passes, passed-rows, passed-checked}
+use Rattle.ternarytree.proofs.Answers.{tested}
 
 -- ---- one outcome is left
 
@@ -168,54 +173,70 @@ named-done i r xs zs ps vs room h l g k b =
       work = d .work;
     }
 
--- ---- done: row k of what is written is row k of the tree
+-- ---- done: the rows of the tree anticommute and have the all-zero vacuum, and row k of what is written is row k of the tree
 
-pub record Stores (w : ℕ) (m : Modes) (xs zs ps : List ℕ) : Type 0 where
-  pub x-part : (k : ℕ) → k < 2 * m .n → value (termOf w xs k) ≡ m .row k .x
-  pub z-part : (k : ℕ) → k < 2 * m .n → value (termOf w zs k) ≡ m .row k .z
-  pub phase : (k : ℕ) → k < 2 * m .n → getD ps k 0 ≡ m .row k .p
+-- the rows m of a tree that is done, on q columns
+pub record Finished (m : Modes) (q : ℕ) : Type 0 where
+  pub majorana : Majorana m
+  pub rule : vacuumRule m 0 ≡ true
+  -- phases below 4, and no bit past the columns
+  pub within : (k : ℕ) → k < 2 * m .n → Within q (m .row k)
 
 slot-low : (leaves : Bool) (t : Tree) → Closed t → Passed leaves t → (m : ℕ) → m < 2 * t .n → slotOf leaves t m < 3 * t .n
 unfolding slotOf
 slot-low true t shut p m h = leaf-slot t (p .whole) m h .1
 slot-low false t shut p m h = naive-low t (sound t (p .passes)) shut m h
 
-written : (leaves : Bool) (t : Tree) (w : ℕ) (o : Outputs) (r : Answer) (xs zs ps vs room : List ℕ) → Closed t → Passed leaves t → ((i : ℕ) → i < t .n → t .qubit i < 64 * w)
-    → Built (bare 0) w (rows leaves t) o r xs zs ps vs room → Stores w (rows leaves t) xs zs ps
-written leaves t w o r xs zs ps vs room shut p low b = record {
-  x-part = λ k h. rw (b .x-parts) (row-laid w (λ k. rows leaves t .row k .x) (2 * t .n) k (o .xs) h (within k h .x-low));
-  z-part = λ k h. rw (b .z-parts) (row-laid w (λ k. rows leaves t .row k .z) (2 * t .n) k (o .zs) h (within k h .z-low));
-  phase = λ k h. rw (b .phases) (number-listed (λ k. rows leaves t .row k .p) (2 * t .n) k (drop (2 * t .n) (o .ps)) h);
-}
+-- a tree whose columns are below q, if no test refuses it
+finished : (leaves : Bool) (t : Tree) (q : ℕ) → Closed t → ((i : ℕ) → i < t .n → t .qubit i < q) → firstOf (treeChecks leaves t) ≡ bare 0 → Finished (rows leaves t) q
+finished leaves t q shut low e = go (ℕ-discrete (verdict leaves t) 0)
   where
-    within : (k : ℕ) → k < 2 * t .n → Within (64 * w) (rows leaves t .row k)
-    within k h = low-row t (64 * w) low (slotOf leaves t k) (slot-low leaves t shut p k h)
+    meets : (b : Bool) → firstOf ((not b gives 13) ∷ []) .number ≡ 0 → b ≡ true
+    meets true h = refl
+    meets false h = absurd (omega arith)
 
--- an answer that is done has passed 3 and the tests of a tree
-flat-passed : (i : Input) → answer i ≡ bare 0 → (badQubits i ≡ false) × (verdict (i .leaves) (treeOf i) ≡ 0)
-unfolding answer
-flat-passed i e = go (badSize i) (tooShort i) (badQubits i) (ℕ-discrete (verdict (i .leaves) (treeOf i)) 0) (ap (λ (p : Paper). p .number) e)
-  where
-    go : (a b c : Bool) → Dec (verdict (i .leaves) (treeOf i) ≡ 0) → firstOf ((a gives 1) ∷ (b gives 2) ∷ (c gives 3) ∷ treeChecks (i .leaves) (treeOf i)) .number ≡ 0
-        → (c ≡ false) × (verdict (i .leaves) (treeOf i) ≡ 0)
-    go true b c d h = absurd (omega arith)
-    go false true c d h = absurd (omega arith)
-    go false false true d h = absurd (omega arith)
-    go false false false (yes z) h = (refl, z)
-    go false false false (no ne) h = absurd (ne (sym (ap (λ (p : Paper). p .number) (verdict-refuses (i .leaves) (treeOf i) ne)) ∙ h))
+    go : Dec (verdict leaves t ≡ 0) → Finished (rows leaves t) q
+    go (yes z) =
+        let p = verdict-passes leaves t z in
+        let c = passed-checked leaves t shut p in
+        record {
+          majorana = c .majorana;
+          rule = meets _ (ap (λ (a : Paper). a .number) (sym (passed-rows leaves t p c) ∙ e));
+          within = λ k h. low-row t q low (slotOf leaves t k) (slot-low leaves t shut p k h);
+        }
+    go (no ne) = absurd (ne (ap (λ (a : Paper). a .number) (sym (verdict-refuses leaves t ne) ∙ e)))
+
+pub flatpack-finished : (i : Input) → answer i ≡ bare 0 → Finished (rows (i .leaves) (treeOf i)) (i .q)
+unfolding badQubits reaches
+flatpack-finished i e =
+    let z : answer i .number ≡ 0 = ap (λ (a : Paper). a .number) e in
+    let t = tested i (λ h. omega arith) (λ h. omega arith) (λ h. omega arith) in
+    finished (i .leaves) (treeOf i) (i .q) (flatpack-closed (i .leaves) (packOf i))
+    (λ j h. let low = leb-false (i .q) (qubitAt (i .es) j) (none-at (i .n) (λ k. leb (i .q) (qubitAt (i .es) k)) (or-right (ltb (i .q) (i .n)) _ (t .qubits)) j h) in omega arith)
+    (sym (t .by-tree) ∙ e)
+
+pub named-finished : (tree : Named) (n : ℕ) → Finished (rows false (namedTree tree n)) n
+named-finished tree n = finished false (namedTree tree n) n (named-closed tree n) (λ i h. h) (named-none tree n)
+
+pub record Stores (w : ℕ) (m : Modes) (xs zs ps : List ℕ) : Type 0 where
+  pub x-part : (k : ℕ) → k < 2 * m .n → value (termOf w xs k) ≡ m .row k .x
+  pub z-part : (k : ℕ) → k < 2 * m .n → value (termOf w zs k) ≡ m .row k .z
+  pub phase : (k : ℕ) → k < 2 * m .n → getD ps k 0 ≡ m .row k .p
+
+written : (q : ℕ) (m : Modes) (o : Outputs) (r : Answer) (xs zs ps vs room : List ℕ) → Finished m q → Built (bare 0) (wordsFor q) m o r xs zs ps vs room → Stores (wordsFor q) m xs zs ps
+written q m o r xs zs ps vs room f b = record {
+  x-part = λ k h. rw (b .x-parts) (row-laid (wordsFor q) (λ k. m .row k .x) (2 * m .n) k (o .xs) h (lt-of-lt-of-le (f .within k h .x-low) (pow-mono (words-hold q))));
+  z-part = λ k h. rw (b .z-parts) (row-laid (wordsFor q) (λ k. m .row k .z) (2 * m .n) k (o .zs) h (lt-of-lt-of-le (f .within k h .z-low) (pow-mono (words-hold q))));
+  phase = λ k h. rw (b .phases) (number-listed (λ k. m .row k .p) (2 * m .n) k (drop (2 * m .n) (o .ps)) h);
+}
 
 pub flatpack-stored : (i : Input) (r : Answer) (xs zs ps vs room : List ℕ) → FlatBuilt i r xs zs ps vs room → r ≡ Done → Stores (wordsFor (i .q)) (rows (i .leaves) (treeOf i)) xs zs ps
-unfolding badQubits reaches
 flatpack-stored i r xs zs ps vs room b done =
     let e : answer i ≡ bare 0 = sym (b .told) ∙ ap answered done in
-    let (below, passed) = flat-passed i e in
-    written (i .leaves) (treeOf i) (wordsFor (i .q)) (i .out) r xs zs ps vs room (flatpack-closed (i .leaves) (packOf i)) (verdict-passes (i .leaves) (treeOf i) passed)
-    (λ j h. let low = leb-false (i .q) (qubitAt (i .es) j) (none-at (i .n) (λ k. leb (i .q) (qubitAt (i .es) k)) (or-right (ltb (i .q) (i .n)) _ below) j h) in omega arith)
-    (rw e at b)
+    written (i .q) (rows (i .leaves) (treeOf i)) (i .out) r xs zs ps vs room (flatpack-finished i e) (rw e at b)
 
 pub named-stored : (i : NamedInput) (r : Answer) (xs zs ps vs room : List ℕ) → NamedBuilt i r xs zs ps vs room → r ≡ Done
     → Stores (wordsFor (i .n)) (rows false (namedTree (i .tree) (i .n))) xs zs ps
 named-stored i r xs zs ps vs room b done =
     let e : namedAnswer i ≡ bare 0 = sym (b .told) ∙ ap answered done in
-    written false (namedTree (i .tree) (i .n)) (wordsFor (i .n)) (i .out) r xs zs ps vs room (named-closed (i .tree) (i .n)) (record { passes = named-passes (i .tree) (i .n); whole = refl })
-    (λ j h. omega arith) (rw e at b)
+    written (i .n) (rows false (namedTree (i .tree) (i .n))) (i .out) r xs zs ps vs room (named-finished (i .tree) (i .n)) (rw e at b)

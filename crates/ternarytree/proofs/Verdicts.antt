@@ -14,13 +14,11 @@ use Rattle.refusal.specs.Table.{Rule, _gives_, firstOf}
 use Rattle.refusal.proofs.Bools.{never}
 use Rattle.trees.specs.declared.Child.{Child}
 use Rattle.trees.specs.declared.Child.the-variants.{Empty as empty, Node as node, XLeaf as xLeaf, YLeaf as yLeaf, Low as low}
-use Rattle.trees.specs.Trees.{some, onward, Tree, parentIn, leafIn, twice, leafFault, faultOf, fault, firstFault, scattered, missing}
+use Rattle.trees.specs.Trees.{some, onward, Tree, parentIn, leafIn, twice, leafFault, faultOf, fault, firstFault, scattered, missing, Closed, Passes}
 use Rattle.trees.specs.Leaves.{slotOf, rows}
 use Rattle.ternarytree.specs.Building.{settled, rowChecks, treeChecks}
 use Rattle.ternarytree.specs.Tables.{Wired, Slots, slotVerdict, verdict, rowsAnswer, TreeBuilt}
-use Rattle.trees.proofs.Sound.{Passes}
 use Rattle.trees.proofs.Fit.{Checked, leaves-checked, naive-checked}
-use Rattle.trees.proofs.Naive.{Closed}
 use Rattle.ternarytree.proofs.ChainSteps.{named-slots}
 
 -- ---- the numbers that a slot can give

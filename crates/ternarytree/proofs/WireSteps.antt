@@ -12,15 +12,14 @@ use lib.ListN.{length, set, length-set}
 use Rattle.refusal.specs.Search.{found, none, leastBelow}
 use Rattle.refusal.proofs.Searches.{least-of, least-none}
 use Rattle.trees.specs.declared.Child.{Child}
-use Rattle.trees.specs.Trees.{nodeOf, Tree, parentIn, leafIn, twiceIn, faultOf, fault, firstFault}
+use Rattle.trees.specs.Trees.{nodeOf, Tree, parentIn, leafIn, twiceIn, faultOf, fault, firstFault, Closed}
 use Rattle.trees.specs.declared.Slot.{Slot}
 use Rattle.trees.specs.Flatpacks.{entryIn, past}
 use Rattle.tree_sizes.specs.Sizes.{qubitAt}
-use Rattle.ternarytree.specs.Building.{slotAt, faultSlot}
-use Rattle.ternarytree.specs.Tables.{code, Holds, AtMost, Blank, childIn, flat, NodeBelow, Children, Wired, slotVerdict}
+use Rattle.ternarytree.specs.Building.{slotAt, flat, faultSlot}
+use Rattle.ternarytree.specs.Tables.{code, Holds, AtMost, Blank, childIn, NodeBelow, Children, Wired, slotVerdict}
 use Rattle.ternarytree.proofs.Codes.{in-order}
 use Rattle.ternarytree.proofs.EntrySteps.{child-is}
-use Rattle.trees.proofs.Naive.{Closed}
 use Rattle.trees.proofs.Flats.{flatpack-closed}
 
 -- ---- faults

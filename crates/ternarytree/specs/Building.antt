@@ -2,7 +2,7 @@
 use Prim.Native.Nat.{ℕ, _+_, _*_, _/_, _%_}
 use mathlib.Core.Path.{_≡_}
 use mathlib.Core.List.{List, [], _∷_}
-use mathlib.Core.Bool.{Bool, false, cond, not, _&&_, _||_}
+use mathlib.Core.Bool.{Bool, true, false, cond, not, _&&_, _||_}
 use lib.Dec.{eqb, ltb}
 use lib.ListN.{length, getD}
 use Rattle.refusal.specs.declared.Answer.{Answer}
@@ -85,11 +85,18 @@ given leaves n q es fs xs zs ps vs room = record { leaves = leaves; n = n; q = q
 abbrev pub slotAt : List ℕ → List Bool → ℕ → Slot
 slotAt es fs k = cond (getD fs k false) (number (getD es (4 * (k / 3) + k % 3 + 1) 0)) blank
 
+-- the flatpack of n entries in two slices, and its tree, with leaves or naive
+abbrev pub pack : ℕ → List ℕ → List Bool → Flatpack
+pack n es fs = record { n = n; qubit = qubitAt es; slot = slotAt es fs }
+
+abbrev pub flat : Bool → ℕ → List ℕ → List Bool → Tree
+flat leaves n es fs = flatTree leaves (pack n es fs)
+
 abbrev pub packOf : Input → Flatpack
-packOf i = record { n = i .n; qubit = qubitAt (i .es); slot = slotAt (i .es) (i .fs) }
+packOf i = pack (i .n) (i .es) (i .fs)
 
 abbrev pub treeOf : Input → Tree
-treeOf i = flatTree (i .leaves) (packOf i)
+treeOf i = flat (i .leaves) (i .n) (i .es) (i .fs)
 
 -- modes 0 or above 256, qubits 0 or above 256, a flatpack qubit above 255
 unfoldable pub badSize : Input → Bool
@@ -121,7 +128,15 @@ faultSlot t = cond (twice t) none (leastBelow (3 * t .n) (λ k. ltb 0 (fault t k
 
 -- of n entries, with leaves or naive: none too if the slots cannot be read
 unfoldable pub faultPlace : Bool → ℕ → List ℕ → List Bool → Least
-faultPlace leaves n es fs = cond (unreadable n es fs) none (faultSlot (flatTree leaves (record { n = n; qubit = qubitAt es; slot = slotAt es fs })))
+faultPlace leaves n es fs = cond (unreadable n es fs) none (faultSlot (flat leaves n es fs))
+
+-- why a tree is refused by a number from 4 to 9, `place` being what find_fault answers: by just the fault of that slot; or it is none, since a qubit has two entries,
+-- which comes before the slots, or since no slot has a fault and not all nodes hang from one root, or a leaf is missing
+pub data Cause (leaves : Bool) (t : Tree) (place : Least) (number : ℕ) : Type 0 where
+  in-slot : (k : ℕ) → place ≡ found k → number ≡ fault t k → Cause leaves t place number
+  second-entry : place ≡ none → number ≡ 7 → twice t ≡ true → Cause leaves t place number
+  roots : place ≡ none → number ≡ 8 → scattered t ≡ true → Cause leaves t place number
+  missing-leaf : place ≡ none → number ≡ 9 → leaves ≡ true → missing t ≡ true → Cause leaves t place number
 
 -- ---- named trees
 

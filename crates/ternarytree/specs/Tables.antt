@@ -1,4 +1,4 @@
--- What the tables of the code hold, for the contracts of its parts.
+-- For the private functions, and needs no belief: what the tables of the code hold. No public contract, and no theorem on the calls, cites a definition of this file.
 use Prim.Native.Nat.{ℕ, zero, suc, _+_, _*_, _/_, _%_, _^_, _<_, _≤_}
 use mathlib.Core.Path.{_≡_}
 use mathlib.Core.List.{List, [], _∷_}
@@ -20,9 +20,9 @@ use Rattle.trees.specs.Paths.{rowAt}
 use Rattle.trees.specs.Leaves.{slotOf}
 use Rattle.trees.specs.declared.Slot.{Slot}
 use Rattle.trees.specs.declared.Slot.the-variants.{Blank as blank, Number as number}
-use Rattle.trees.specs.Flatpacks.{unnamed, named, flatTree}
-use Rattle.tree_sizes.specs.Sizes.{qubitAt, reaches}
-use Rattle.ternarytree.specs.Building.{settled, treeChecks, slotAt}
+use Rattle.trees.specs.Flatpacks.{unnamed, named}
+use Rattle.tree_sizes.specs.Sizes.{reaches}
+use Rattle.ternarytree.specs.Building.{settled, treeChecks, flat}
 
 -- element k of a list, 0 past its end
 abbrev pub nth : List ℕ → ℕ → ℕ
@@ -55,10 +55,6 @@ Blank n l = (j : ℕ) → j < n → nth l j ≡ 0
 abbrev pub childIn : List ℕ → ℕ → Bool → Slot → Child
 childIn l top leaves blank = empty
 childIn l top leaves (number q) = named (uncode (nth l q)) (unnamed leaves top q)
-
--- the tree of two slices
-abbrev pub flat : Bool → ℕ → List ℕ → List Bool → Tree
-flat leaves n es fs = flatTree leaves (record { n = n; qubit = qubitAt es; slot = slotAt es fs })
 
 -- a node is one of n
 abbrev pub NodeBelow : ℕ → Child → Type 0

@@ -19,8 +19,8 @@ ghost use Rattle.trees.specs.Trees.{Tree};
 ghost use Rattle.trees.specs.Leaves.{slotOf, rows};
 ghost use Rattle.trees.specs.Named.{namedTree};
 ghost use Rattle.tree_sizes.specs.Sizes.{qubitAt};
-ghost use Rattle.ternarytree.specs.Building.{treeChecks};
-ghost use Rattle.ternarytree.specs.Tables.{nth, AtMost, flat, Children, Wired, Slots, verdict, rowsAnswer, flatTask, Ready, TreeBuilt};
+ghost use Rattle.ternarytree.specs.Building.{treeChecks, flat};
+ghost use Rattle.ternarytree.specs.Tables.{nth, AtMost, Children, Wired, Slots, verdict, rowsAnswer, flatTask, Ready, TreeBuilt};
 
 // Writes the rows of a tree that passed its tests, from its tables, and the all-zero vacuum. If the rows break the vacuum rule there: 13, and zeros over all.
 pub fn build_rows(

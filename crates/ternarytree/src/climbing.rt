@@ -8,7 +8,8 @@ ghost use lib.ListN.{length};
 ghost use Rattle.trees.specs.Trees.{Tree, climb, scattered, missing};
 ghost use Rattle.trees.specs.Hanging.{Hangs};
 ghost use Rattle.tree_sizes.specs.Sizes.{qubitAt};
-ghost use Rattle.ternarytree.specs.Tables.{nth, AtMost, Blank, flat, Parents, linkOf, Links, Ways, Children, Wired, verdict};
+ghost use Rattle.ternarytree.specs.Building.{flat};
+ghost use Rattle.ternarytree.specs.Tables.{nth, AtMost, Blank, Parents, linkOf, Links, Ways, Children, Wired, verdict};
 
 // The way up from each of n nodes: 4 times one more than the node above it, or 0 if there is none, and the letter of the slot that it stands in.
 pub fn link(parents: &[usize; 256], n: usize, links: &mut [usize; 256])

@@ -12,8 +12,8 @@ ghost use Rattle.trees.specs.Trees.{Tree, nodeOf, rowOf, parentIn, leafIn, twic
 ghost use Rattle.refusal.specs.Search.{found};
 ghost use Rattle.trees.specs.Flatpacks.{entryIn, past, leafNumbered};
 ghost use Rattle.tree_sizes.specs.Sizes.{qubitAt};
-ghost use Rattle.ternarytree.specs.Building.{slotAt, faultSlot, placed};
-ghost use Rattle.ternarytree.specs.Tables.{nth, code, Holds, AtMost, Blank, childIn, flat, NodeBelow, Children, Wired, slotVerdict};
+ghost use Rattle.ternarytree.specs.Building.{slotAt, flat, faultSlot, placed};
+ghost use Rattle.ternarytree.specs.Tables.{nth, code, Holds, AtMost, Blank, childIn, NodeBelow, Children, Wired, slotVerdict};
 
 // The qubit of each entry.
 pub fn copy_qubits(entries: &[usize], n: usize, columns: &mut [usize; 256])

@@ -1,5 +1,5 @@
 -- The tree theorem: the rows of two different slots that hold no node anticommute. A letter below depth d does not clash with the edges above a node at
--- depth d; of two slots the deeper identity's path is dropped to the other's level; where they meet the letters differ. No column is looked at.
+-- depth d; of two slots the deeper one's path is dropped to the other's level; where they meet the letters differ. No column is looked at.
 use Prim.Native.Nat.{ℕ, zero, suc, _+_, _*_, _/_, _%_, _^_, _<_, _≤_}
 use native.Mathlib.Decide.{decLe, ℕ-discrete}
 use native.Mathlib.Omega.{arith}
@@ -8,10 +8,10 @@ use mathlib.Core.Logic.{_≢_}
 use Rattle.refusal.specs.Search.{Least, found, none}
 use Rattle.algebra.specs.Rows.{Row, identity, clash}
 use Rattle.algebra.proofs.RowLaws.{clash-comm, clash-self}
-use Rattle.trees.specs.Trees.{onward, nodeOf, Tree, parentIn, up, climb}
-use Rattle.trees.specs.Paths.{join, letterAt, letter, above, rowAt}
+use Rattle.trees.specs.Trees.{onward, nodeOf, Tree, up, climb, Names}
+use Rattle.trees.specs.Paths.{join, letter, above, rowAt}
 use Rattle.trees.proofs.Letters.{clash-identity, clash-l, clash-r, dot-own, dot-other, same-column, other-column}
-use Rattle.trees.proofs.Sound.{Names, Sound, parent-names}
+use Rattle.trees.proofs.Sound.{Sound, parent-names}
 
 -- node i is d steps below the root, and r is the row of the edges between
 pub data Above (t : Tree) : ℕ → ℕ → Row → Type 0 where

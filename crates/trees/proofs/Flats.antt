@@ -1,14 +1,14 @@
--- What the slots of a flatpack hold: a node there is one of the entries.
-use Prim.Native.Nat.{ℕ, _+_, _-_, _/_, _%_, _<_}
+-- What the slots of a flatpack hold: a node there is one of the entries. And how far its qubits go.
+use Prim.Native.Nat.{ℕ, zero, suc, _-_, _/_, _%_, _<_, _≤_}
+use native.Mathlib.Decide.{decLt}
 use native.Mathlib.Omega.{arith}
 use mathlib.Core.Path.{_≡_, refl, sym, _∙_}
 use mathlib.Core.Bool.{Bool, true, false, cond}
 use lib.Dec.{eqb, leb}
 use Rattle.refusal.specs.Search.{Least, found, none}
 use Rattle.refusal.proofs.Searches.{least-found}
-use Rattle.trees.specs.Trees.{Child, xLeaf, yLeaf, low, nodeOf}
+use Rattle.trees.specs.Trees.{Child, xLeaf, yLeaf, low, nodeOf, Closed}
 use Rattle.trees.specs.Flatpacks.{Slot, blank, number, Flatpack, entryIn, past, leafNumbered, unnamed, named, childOf, flatTree}
-use Rattle.trees.proofs.Naive.{Closed}
 
 -- what is no entry's qubit is no node
 unnamed-free : (leaves : Bool) (top q : ℕ) → nodeOf (unnamed leaves top q) ≡ none
@@ -32,3 +32,19 @@ flatpack-closed leaves c k j h = go (c .slot k) h
     go : (s : Slot) → nodeOf (childOf leaves c s) ≡ found j → j < c .n
     go blank h = let z : _≡_ {A = ℕ} 0 1 = cc in absurd (omega arith)
     go (number q) h = least-found (c .n) (λ i. eqb (c .qubit i) q) j (sym (node-of-entry _ _ (unnamed-free leaves (past (c .qubit) (c .n)) q)) ∙ h) .low
+
+-- ---- one more than the largest qubit
+
+pub past-above : (q : ℕ → ℕ) (n k : ℕ) → k < n → q k < past q n
+unfolding past
+past-above q zero k h = absurd (omega arith)
+past-above q (suc n) k h = go (decLt k n) (past-above q n k)
+  where
+    go : Dec (k < n) → (k < n → q k < past q n) → q k < past q (suc n)
+    go (yes l) before = omega (arith, before l)
+    go (no l) before = let e : k ≡ n = omega arith in rw e (omega arith)
+
+pub past-low : (q : ℕ → ℕ) (n b : ℕ) → ((k : ℕ) → k < n → q k < b) → past q n ≤ b
+unfolding past
+past-low q zero b h = omega arith
+past-low q (suc n) b h = omega (arith, past-low q n b (λ k l. h k (omega arith)), h n (omega arith))

@@ -3,7 +3,7 @@ use Prim.Native.Nat.{ℕ, zero, suc, _+_, _%_, _^_, _<_}
 use native.Mathlib.Omega.{arith}
 use mathlib.Core.Path.{_≡_, refl, sym, _∙_}
 use mathlib.Core.Logic.{_≢_}
-use Rattle.algebra.specs.Rows.{bit, dot, Row, identity, clash}
+use Rattle.algebra.specs.Rows.{dot, Row, identity, clash}
 use Rattle.algebra.proofs.Digits.{bit-pow, bit-pow-other}
 use Rattle.algebra.proofs.Dots.{dot-zero-l, dot-zero-r, dot-pow}
 use Rattle.algebra.proofs.RowLaws.{clash-dot, clash-comm, clash-times-l}

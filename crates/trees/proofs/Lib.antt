@@ -1,12 +1,13 @@
 pub mod Examples
 pub mod Findings
 pub mod Sound
+pub mod Faults
 pub mod Letters
 pub mod Above
+pub mod OneRoot
 pub mod WithLeaves
 pub mod Naive
 pub mod NamedTrees
-pub mod OneRoot
 pub mod Bounds
 pub mod Flats
 pub mod Fit

@@ -1,5 +1,5 @@
 -- A naive tree that passes 7, 5, 6 and 8 has rows that anticommute and meet the vacuum rule at zero: its leaves end Z chains, and down a chain the x part and the
--- phase stay.
+-- phase stay. The Z chain of the root ends empty: no other chain meets it.
 use Prim.Native.Nat.{ℕ, zero, suc, _+_, _-_, _*_, _/_, _%_, _^_, _<_, _≤_}
 use native.Mathlib.Omega.{arith}
 use mathlib.Core.Path.{_≡_, refl, ap, _∙_, sym}
@@ -13,20 +13,17 @@ use Rattle.refusal.proofs.Searches.{all-of}
 use Rattle.algebra.specs.Rows.{Row}
 use Rattle.algebra.specs.Modes.{lo, hi, e, d, paired, empty, vacuumRule, Majorana}
 use Rattle.algebra.proofs.Dots.{dot-zero-r}
-use Rattle.trees.specs.Trees.{onward, nodeOf, Tree, up}
+use Rattle.trees.specs.Trees.{onward, nodeOf, Tree, up, Names, Closed}
 use Rattle.trees.specs.Paths.{join, letter, above, rowAt}
-use Rattle.trees.specs.Leaves.{zEnd, chainEnd, naiveSlot, slotOf, rows}
-use Rattle.trees.proofs.Sound.{Names, Sound, parent-names, named-parent}
-use Rattle.trees.proofs.Above.{Above, step, unique, slot-row, slots-anticommute}
+use Rattle.trees.specs.Leaves.{zEnd, chainEnd, naiveSlot, slotOf, EndsEmpty, rows}
+use Rattle.trees.proofs.Sound.{Sound, parent-names, named-parent}
+use Rattle.trees.proofs.Above.{Above, root, step, unique, slot-row, slots-anticommute}
+use Rattle.trees.proofs.OneRoot.{steps-few}
 
 -- slot k is reached from slot s by Z alone
 data Chain (t : Tree) (s : ℕ) : ℕ → Type 0 where
   start : {k : ℕ} → s ≡ k → Chain t s k
   down : {k j k′ : ℕ} → Chain t s k → Names t k j → k′ ≡ 3 * j + 2 → Chain t s k′
-
--- every node that a slot names is identity of the n
-unfoldable pub Closed : Tree → Type 0
-Closed t = (k j : ℕ) → Names t k j → j < t .n
 
 chain-end : (t : Tree) (s f j k : ℕ) → Chain t s k → Names t k j → Chain t s (zEnd t f j)
 unfolding zEnd
@@ -86,13 +83,10 @@ module _ (t : Tree) (ok : Sound t) (closed : Closed t) where
       let l = z-letter k′ j e in
       (suc d, join (letter t k) r, under (chain-low h c) g b (k′ / 3) (omega arith), rw (l .0, xor-zero-l (bitXor (letter t k .x) (r .x))) x, rw (l .1) (omega (arith, p)))
 
-  deep : {i d : ℕ} {r : Row} → i < t .n → Above t i d r → d ≤ t .n
-  deep {i = i} h a = let q = slot-row t ok (3 * i) (omega arith) in omega (arith, unique a (q .2) (omega arith) .0)
-
   -- a chain ends in a slot that names no node
-  ends : (f j : ℕ) {d : ℕ} {r : Row} → j < t .n → Above t j d r → t .n < d + f → nodeOf (t .child (zEnd t f j)) ≡ none
+  ends : (f j : ℕ) {d : ℕ} {r : Row} → j < t .n → Above t j d r → t .n ≤ d + f → nodeOf (t .child (zEnd t f j)) ≡ none
   unfolding zEnd Closed
-  ends zero j h a l = absurd (omega (arith, deep h a))
+  ends zero j h a l = absurd (omega (arith, steps-few t h a))
   ends (suc f) j {d = d} {r = r} h a l = go (nodeOf (t .child (3 * j + 2))) refl (λ i b g. ends f i b g (omega arith))
     where
       go : (o : Least) → nodeOf (t .child (3 * j + 2)) ≡ o
@@ -138,6 +132,39 @@ module _ (t : Tree) (ok : Sound t) (closed : Closed t) where
     where
       apart : (j k : ℕ) → j ≢ k → 3 * (j / 2) + j % 2 ≡ 3 * (k / 2) + k % 2 → ⊥
       apart j k ne e = omega arith
+
+  -- ---- the root's chain
+
+  -- a chain from a slot that is not Z does not meet that of a node that stands in no slot
+  root-apart : {s r k k′ : ℕ} → s < 3 * t .n → s % 3 ≢ 2 → r < t .n → up t r ≡ none → Chain t s k → Chain t (3 * r + 2) k′ → k ≢ k′
+  root-apart l h n top (start e) (start e′) q = omega arith
+  root-apart l h n top (start e) (down c g e′) q = omega arith
+  root-apart {r = r} l h n top (down {k = k} {j = j} c g e) (start e′) q =
+      let same : j ≡ r = omega arith in
+      named-parent t _ r k top (chain-low l c) (rw same at g)
+  root-apart {r = r} l h n top (down {k = k} {j = j} c g e) (down {k = k′} {j = j′} c′ g′ e′) q =
+      let same : j ≡ j′ = omega arith in
+      let low : 3 * r + 2 < 3 * t .n = omega arith in
+      root-apart l h n top c c′ (ok .once k k′ j′ (chain-low l c) (chain-low low c′) (rw same at g) g′)
+
+  chain-from : (r f : ℕ) → Chain t (3 * r + 2) (zEnd t f r)
+  unfolding zEnd
+  chain-from r zero = start refl
+  chain-from r (suc f) = go (nodeOf (t .child (3 * r + 2))) refl
+    where
+      go : (o : Least) → nodeOf (t .child (3 * r + 2)) ≡ o → Chain t (3 * r + 2) (onward o (3 * r + 2) (λ i. zEnd t f i))
+      go (found i) e = chain-end t (3 * r + 2) f i (3 * r + 2) (start refl) e
+      go none e = start refl
+
+  pub root-ends-empty : (r : ℕ) → r < t .n → up t r ≡ none → EndsEmpty t r
+  unfolding slotOf
+  root-ends-empty r n top =
+      let low : 3 * r + 2 < 3 * t .n = omega arith in
+      record {
+        slot = chain-low low (chain-from r (t .n));
+        no-node = ends (t .n) r n (root top) (omega arith);
+        no-leaf = λ m h. let l : 3 * (m / 2) + m % 2 < 3 * t .n = omega arith in root-apart l (omega arith) n top (chain-all t (3 * (m / 2) + m % 2)) (chain-from r (t .n));
+      }
 
   -- ---- the vacuum
 

@@ -3,19 +3,17 @@ use Prim.Native.Nat.{ℕ, zero, suc, _+_, _-_, _*_, _/_, _%_, _<_, _≤_}
 use native.Mathlib.Decide.{decLt, ℕ-discrete}
 use native.Mathlib.Omega.{arith}
 use mathlib.Core.Path.{_≡_, refl, ap, _∙_, sym}
-use mathlib.Core.Logic.{_≢_}
-use mathlib.Core.Bool.{Bool, true, false, cond, not, _&&_, _||_}
+use mathlib.Core.Bool.{false, cond, not, _&&_}
 use lib.Dec.{eqb, ltb}
 use borrow.Author.Tests.{ltb-true, lt-ltb, le-ltb, eqb-true, eq-eqb, ne-eqb}
 use Rattle.refusal.specs.Search.{Least, found, none, someBelow, leastBelow}
 use Rattle.refusal.proofs.Bools.{and-left, and-right, both, is-false}
 use Rattle.refusal.proofs.Searches.{none-of, least-found, least-none}
-use Rattle.trees.specs.Trees.{Child, empty, some, is, onward, Tree, nodeOf, parentIn, up, climb, twice, twiceIn, faultOf, fault, firstFault, scattered}
+use Rattle.trees.specs.Trees.{empty, is, onward, nodeOf, parentIn, up, climb, twice, twiceIn, faultOf, fault, firstFault, scattered, Names, Closed, Passes}
 use Rattle.trees.specs.Flatpacks.{named}
 use Rattle.trees.specs.Named.{Named, jordanWigner, parity, bravyiKitaev, jkmn, xOf, yOf, zOf, under, grown, namedTree}
 use Rattle.trees.proofs.Findings.{found-some, is-found}
-use Rattle.trees.proofs.Sound.{Passes, Names, parent-names, named-parent}
-use Rattle.trees.proofs.Naive.{Closed}
+use Rattle.trees.proofs.Sound.{parent-names, named-parent}
 
 pub node-of-named : (o : Least) → nodeOf (named o empty) ≡ o
 node-of-named (found j) = refl

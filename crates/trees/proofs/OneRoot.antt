@@ -1,18 +1,18 @@
 -- 8 is not given exactly if all nodes hang from one root: n steps are enough, since the nodes on a climb differ.
-use Prim.Native.Nat.{ℕ, zero, suc, _+_, _-_, _*_, _/_, _<_, _≤_}
+use Prim.Native.Nat.{ℕ, zero, suc, _-_, _/_, _<_, _≤_}
 use native.Mathlib.Decide.{ℕ-discrete}
 use native.Mathlib.Nat.{suc-sub-suc, sub-zero}
 use native.Mathlib.Omega.{arith}
-use mathlib.Core.Path.{_≡_, refl, ap, _∙_, sym}
+use mathlib.Core.Path.{_≡_, refl, _∙_, sym}
 use mathlib.Core.Logic.{_≢_, _↔_}
-use mathlib.Core.Bool.{Bool, true, false, not, _||_}
+use mathlib.Core.Bool.{false, not}
 use lib.Dec.{eqb}
 use borrow.Author.Tests.{eqb-true, eq-eqb, not-false}
 use Rattle.refusal.specs.Search.{Least, found, none, someBelow}
 use Rattle.refusal.proofs.Bools.{or-left, or-right}
 use Rattle.refusal.proofs.Searches.{none-at, none-of}
 use Rattle.algebra.specs.Rows.{Row, identity}
-use Rattle.trees.specs.Trees.{some, onward, Tree, parentIn, up, climb, scattered}
+use Rattle.trees.specs.Trees.{onward, Tree, up, climb, scattered}
 use Rattle.trees.specs.Paths.{join, letter}
 use Rattle.trees.specs.Hanging.{Hangs, itself, below, OneRoot}
 use Rattle.trees.proofs.Findings.{not-some}
@@ -93,7 +93,7 @@ module _ (t : Tree) where
   part-way (suc j) i zero (root e) h = absurd (omega arith)
   part-way (suc j) i (suc d) (step {k = k} e a) h = rw (climb-here j i k e, suc-sub-suc) (part-way j (k / 3) d a (omega arith))
 
-  steps-few : {i d : ℕ} {r : Row} → i < t .n → Above t i d r → d < t .n
+  pub steps-few : {i d : ℕ} {r : Row} → i < t .n → Above t i d r → d < t .n
   steps-few {i = i} {d = d} h a =
       pigeons (t .n) (suc d) (λ j. climb t j i) (λ j g. climb-low j i h)
       (λ j j′ g g′ e. omega (arith, unique (part-way j i d a (omega arith) .1) (part-way j′ i d a (omega arith) .1) e .0))

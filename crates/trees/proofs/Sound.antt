@@ -1,27 +1,17 @@
 -- What a tree that passes 7, 5, 6 and 8 is known to be: columns differ, no node stands in two slots, and all climbs end at one node without a parent.
-use Prim.Native.Nat.{ℕ, zero, suc, _+_, _*_, _/_, _<_}
+use Prim.Native.Nat.{ℕ, _*_, _/_, _<_}
 use native.Mathlib.Decide.{decLt}
 use native.Mathlib.Omega.{arith}
-use mathlib.Core.Path.{_≡_, refl, sym, _∙_}
+use mathlib.Core.Path.{_≡_, refl, sym}
 use mathlib.Core.Logic.{_≢_}
 use mathlib.Core.Bool.{Bool, true, false, cond, not}
 use lib.Dec.{eqb, ltb}
-use borrow.Author.Tests.{ltb-false, lt-ltb, eqb-true, eq-eqb, not-false}
+use borrow.Author.Tests.{ltb-false, eqb-true, eq-eqb, not-false}
 use Rattle.refusal.specs.Search.{Least, found, none, someBelow, leastBelow}
 use Rattle.refusal.proofs.Bools.{or-left, or-right, never}
 use Rattle.refusal.proofs.Searches.{none-at, least-found, least-missing}
-use Rattle.trees.specs.Trees.{Child, empty, node, xLeaf, yLeaf, low, some, is, onward, Tree, nodeOf, parentIn, up, climb, twice, twiceIn, faultOf, fault, firstFault, scattered}
+use Rattle.trees.specs.Trees.{Child, empty, node, xLeaf, yLeaf, low, some, is, onward, Tree, nodeOf, parentIn, up, climb, twiceIn, faultOf, fault, firstFault, scattered, Names, Passes}
 use Rattle.trees.proofs.Findings.{not-some, is-found, found-is}
-
--- the tests that every tree takes
-pub record Passes (t : Tree) : Type 0 where
-  pub once : twice t ≡ false
-  pub faultless : firstFault t ≡ 0
-  pub together : scattered t ≡ false
-
--- slot k holds node j
-abbrev pub Names : Tree → ℕ → ℕ → Type 0
-Names t k j = nodeOf (t .child k) ≡ found j
 
 pub record Sound (t : Tree) : Type 0 where
   pub apart : (i j : ℕ) → i < t .n → j < t .n → t .qubit i ≡ t .qubit j → i ≡ j
@@ -45,6 +35,21 @@ no-fault t ok k h = go (leastBelow (3 * t .n) (λ k. ltb 0 (fault t k))) refl ok
     go : (o : Least) → leastBelow (3 * t .n) (λ k. ltb 0 (fault t k)) ≡ o → onward o 0 (fault t) ≡ 0 → fault t k ≡ 0
     go (found j) e f = absurd (never (least-found _ _ j e .passes) (rw f))
     go none e f = let z = ltb-false 0 (fault t k) (least-missing _ _ e k h) in omega arith
+
+-- no qubit has two entries
+pub qubits-apart : (n : ℕ) (qubit : ℕ → ℕ) → twiceIn n qubit ≡ false → (i j : ℕ) → i < n → j < n → qubit i ≡ qubit j → i ≡ j
+unfolding twiceIn
+qubits-apart n qubit once i j a b e = go (decLt i j) (decLt j i)
+  where
+    differ : (i j : ℕ) → i < j → j < n → qubit i ≡ qubit j → ⊥
+    differ i j l b e =
+        never (eq-eqb (qubit i) (qubit j) e)
+        (none-at j (λ i. eqb (qubit i) (qubit j)) (none-at n (λ j. someBelow j (λ i. eqb (qubit i) (qubit j))) once j b) i l)
+
+    go : Dec (i < j) → Dec (j < i) → i ≡ j
+    go (yes l) d = absurd (differ i j l b e)
+    go (no l) (yes m) = absurd (differ j i m a (sym e))
+    go (no l) (no m) = omega arith
 
 module _ (t : Tree) (ok : Passes t) where
   -- a node in slot k stands in no slot before it
@@ -72,20 +77,6 @@ module _ (t : Tree) (ok : Passes t) where
       go (no l) (yes l′) = absurd (earlier k′ k j l′ h e′ e)
       go (no l) (no l′) = omega arith
 
-  differ : (i j : ℕ) → i < j → j < t .n → t .qubit i ≢ t .qubit j
-  unfolding twiceIn
-  differ i j l h e =
-      never (eq-eqb (t .qubit i) (t .qubit j) e)
-      (none-at j (λ i. eqb (t .qubit i) (t .qubit j)) (none-at (t .n) (λ j. someBelow j (λ i. eqb (t .qubit i) (t .qubit j))) (ok .once) j h) i l)
-
-  apart : (i j : ℕ) → i < t .n → j < t .n → t .qubit i ≡ t .qubit j → i ≡ j
-  apart i j h h′ e = go (decLt i j) (decLt j i)
-    where
-      go : Dec (i < j) → Dec (j < i) → i ≡ j
-      go (yes l) d = absurd (differ i j l h′ e)
-      go (no l) (yes l′) = absurd (differ j i l′ h (sym e))
-      go (no l) (no l′) = omega arith
-
   hangs : (i : ℕ) → i < t .n → climb t (t .n) i ≡ climb t (t .n) 0
   unfolding scattered
   hangs i h = eqb-true _ _ (not-false _ (none-at (t .n) (λ i. not (eqb (climb t (t .n) i) (climb t (t .n) 0))) (or-left _ _ (ok .together)) i h))
@@ -95,4 +86,4 @@ module _ (t : Tree) (ok : Passes t) where
   parentless = not-some _ (or-right (someBelow (t .n) (λ i. not (eqb (climb t (t .n) i) (climb t (t .n) 0)))) _ (ok .together))
 
   pub sound : Sound t
-  sound = record { apart = apart; once = one-slot; hangs = hangs; parentless = parentless }
+  sound = record { apart = qubits-apart (t .n) (t .qubit) (ok .once); once = one-slot; hangs = hangs; parentless = parentless }

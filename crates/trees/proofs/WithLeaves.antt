@@ -1,15 +1,15 @@
 -- A tree with leaves that passes its tests has a slot for each row's leaf, and rows that anticommute.
 use Prim.Native.Nat.{ℕ, _*_, _<_}
 use mathlib.Core.Path.{_≡_, refl, ap, _∙_, sym}
-use mathlib.Core.Bool.{Bool, true, false, not}
-use Rattle.refusal.specs.Search.{Least, found, none, leastBelow}
+use mathlib.Core.Bool.{true, false, not}
+use Rattle.refusal.specs.Search.{Least, found, none}
 use Rattle.refusal.proofs.Bools.{never}
 use Rattle.refusal.proofs.Searches.{none-at, least-found}
 use Rattle.algebra.specs.Modes.{Majorana}
-use Rattle.trees.specs.Trees.{Child, empty, node, xLeaf, yLeaf, low, some, is, onward, Tree, nodeOf, rowOf, leafIn, missing}
+use Rattle.trees.specs.Trees.{Child, empty, node, xLeaf, yLeaf, low, some, is, onward, Tree, nodeOf, rowOf, leafIn, missing, Passes}
 use Rattle.trees.specs.Leaves.{namedSlot, slotOf, rows}
 use Rattle.trees.proofs.Findings.{is-found}
-use Rattle.trees.proofs.Sound.{Passes, sound}
+use Rattle.trees.proofs.Sound.{sound}
 use Rattle.trees.proofs.Above.{slots-anticommute}
 
 leaf-no-node : (o : Child) (m : ℕ) → rowOf o ≡ found m → nodeOf o ≡ none

@@ -1,5 +1,5 @@
 -- The named trees on n nodes: node k, from 1, stands in the slot `under k`.
-use Prim.Native.Nat.{ℕ, zero, suc, _+_, _-_, _*_, _/_, _%_}
+use Prim.Native.Nat.{ℕ, _+_, _-_, _*_, _/_, _%_}
 use mathlib.Core.Bool.{cond, _&&_}
 use lib.Dec.{eqb, ltb}
 use Rattle.refusal.specs.Search.{leastBelow}

@@ -1,5 +1,7 @@
 -- Trees of n nodes, from 0, with an X, a Y and a Z slot each, and what refuses them. Slot k is the slot k mod 3 (0 is X, 1 is Y, 2 is Z) of node k / 3.
-use Prim.Native.Nat.{ℕ, zero, suc, _+_, _*_, _/_}
+use Prim.Native.Nat.{ℕ, zero, suc, _+_, _*_, _/_, _<_}
+use mathlib.Core.Path.{_≡_}
+use mathlib.Core.Logic.{_≢_}
 use mathlib.Core.Bool.{Bool, true, false, cond, not, _||_}
 use lib.Dec.{eqb, leb, ltb}
 use Rattle.refusal.specs.Search.{someBelow, Least, found, none, leastBelow}
@@ -36,6 +38,14 @@ nodeOf (node j) = found j
 nodeOf (xLeaf i) = none
 nodeOf (yLeaf i) = none
 nodeOf low = none
+
+-- slot k holds node j
+abbrev pub Names : Tree → ℕ → ℕ → Type 0
+Names t k j = nodeOf (t .child k) ≡ found j
+
+-- every node that a slot holds is one of the n
+unfoldable pub Closed : Tree → Type 0
+Closed t = (k j : ℕ) → Names t k j → j < t .n
 
 -- the row of the leaf in a slot: X leaf i gives row 2i, Y leaf i row 2i + 1
 abbrev pub rowOf : Child → Least
@@ -89,6 +99,13 @@ fault t k = faultOf t k (t .child k)
 unfoldable pub firstFault : Tree → ℕ
 firstFault t = onward (leastBelow (3 * t .n) (λ k. ltb 0 (fault t k))) 0 (fault t)
 
+-- slot k is the first that has a fault, and that is the fault of the slots
+pub record FirstAtFault (t : Tree) (k : ℕ) : Type 0 where
+  pub slot : k < 3 * t .n
+  pub at-fault : fault t k ≢ 0
+  pub before : (j : ℕ) → j < k → fault t j ≡ 0
+  pub number : firstFault t ≡ fault t k
+
 -- 8: not all nodes hang from one root. n steps up lead from every node to the node to which they lead from node 0, and that has no parent
 unfoldable pub scattered : Tree → Bool
 scattered t = someBelow (t .n) (λ i. not (eqb (climb t (t .n) i) (climb t (t .n) 0))) || some (up t (climb t (t .n) 0))
@@ -96,3 +113,9 @@ scattered t = someBelow (t .n) (λ i. not (eqb (climb t (t .n) i) (climb t (t .n
 -- 9: a leaf is missing
 unfoldable pub missing : Tree → Bool
 missing t = someBelow (2 * t .n) (λ m. not (some (leafIn t (3 * t .n) m)))
+
+-- the tests that every tree takes: 7; then 5, 6, 4 and 9 in the slots; then 8
+pub record Passes (t : Tree) : Type 0 where
+  pub once : twice t ≡ false
+  pub faultless : firstFault t ≡ 0
+  pub together : scattered t ≡ false

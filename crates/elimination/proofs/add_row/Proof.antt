@@ -2,7 +2,7 @@
 use Prim.Native.Nat.{_-_, _≤_}
 use mathlib.Core.Path.{_≡_}
 use native.Mathlib.Omega.{arith}
-use Rattle.elimination.specs.Rooms.{Added}
+use Rattle.elimination.specs.Steps.{Added}
 use Rattle.elimination.proofs.RoomLaws.{added-start, added-step}
 use borrow.Author.Needs.{needs}
 use Rattle.elimination.proofs.add_row.Statement.{statement}

@@ -5,7 +5,8 @@ use mathlib.Core.Path.{_≡_, sym, _∙_}
 use borrow.Author.Tests.{not-true, not-false}
 use Rattle.elimination.proofs.Dependence.{zero-here, zero-below, zero-none}
 use Rattle.elimination.proofs.RoomLaws.{row-before, row-zero, row-full}
-use Rattle.elimination.specs.Rooms.{rowAt, zeroAmong}
+use Rattle.elimination.specs.Rooms.{rowAt}
+use Rattle.elimination.specs.Steps.{zeroAmong}
 use borrow.Author.Needs.{needs}
 use Rattle.elimination.proofs.some_zero.Statement.{statement}
 use Rattle.elimination.proofs.some_zero.Tie as tie

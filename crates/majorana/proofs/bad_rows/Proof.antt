@@ -10,7 +10,6 @@ use Rattle.dense_block.specs.Words.{straysIn}
 use Rattle.majorana.specs.Sets.{manyOrBad}
 use Rattle.majorana.proofs.SetLaws.{few-bad, bad-parts}
 use borrow.Author.Needs.{needs}
-use borrow.Author.Needs.{needs}
 use Rattle.majorana.proofs.bad_rows.Statement.{statement}
 use Rattle.majorana.proofs.bad_rows.Tie as tie
 

@@ -10,7 +10,8 @@ use lib.Seq.{length-take-le}
 use Rattle.refusal.specs.Table.{Lent, _of_}
 use Rattle.refusal.proofs.Rooms.{Hold}
 use Rattle.dense_block.specs.Words.{wordsFor}
-use Rattle.majorana.specs.Sets.{Set, given, badSize, Fits}
+use Rattle.majorana.specs.Sets.{Set, given, badSize}
+use Rattle.majorana.specs.Held.{Fits}
 use Rattle.majorana.specs.Checks.{vacuumBad, rowsShort}
 use Rattle.majorana.specs.Rooms.{Same}
 use Rattle.majorana.proofs.SetLaws.{InSize, in-size, few-words, held-in}

@@ -9,7 +9,8 @@ use lib.Seq.{length-take-le}
 use Rattle.refusal.specs.Table.{_of_}
 use Rattle.refusal.proofs.Bools.{or-left}
 use Rattle.refusal.proofs.Rooms.{Hold}
-use Rattle.majorana.specs.Sets.{Set, given, badSize, badRows, Fits, Held}
+use Rattle.majorana.specs.Sets.{Set, given, badSize, badRows}
+use Rattle.majorana.specs.Held.{Fits, Held}
 use Rattle.majorana.specs.Checks.{vacuumShort, vacuumBad, vacuumChecked}
 use Rattle.majorana.proofs.SetLaws.{InSize, in-size, few-words, held-in, phase-small}
 use borrow.Author.Needs.{needs}

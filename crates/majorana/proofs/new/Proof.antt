@@ -9,7 +9,8 @@ use lib.ListN.{length}
 use Rattle.refusal.specs.Table.{Lent, _of_}
 use Rattle.refusal.proofs.Rooms.{Hold}
 use Rattle.dense_block.proofs.Values.{words-hold}
-use Rattle.majorana.specs.Sets.{Set, given, badSize, Fits}
+use Rattle.majorana.specs.Sets.{Set, given, badSize}
+use Rattle.majorana.specs.Held.{Fits}
 use Rattle.majorana.specs.Checks.{rowsShort}
 use Rattle.majorana.proofs.SetLaws.{InSize, in-size, few-words, held-in}
 use Rattle.majorana.proofs.VacuumAnswers.{new-size, new-short, new-done}

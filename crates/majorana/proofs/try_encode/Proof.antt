@@ -9,7 +9,8 @@ use lib.Seq.{length-take-le}
 use Rattle.refusal.specs.Table.{Lent, _of_}
 use Rattle.refusal.proofs.Bools.{or-left}
 use Rattle.refusal.proofs.Rooms.{Hold}
-use Rattle.majorana.specs.Sets.{Set, given, badSize, Fits, Held}
+use Rattle.majorana.specs.Sets.{Set, given, badSize}
+use Rattle.majorana.specs.Held.{Fits, Held}
 use Rattle.majorana.proofs.SetLaws.{InSize, in-size, few-words, held-in, phase-small}
 use Rattle.majorana.specs.Codes.{encoded, encodeShort, encodeBad}
 use Rattle.majorana.proofs.CodeAnswers.{encode-size, encode-short, encode-value, encode-run}

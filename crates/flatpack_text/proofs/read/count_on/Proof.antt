@@ -1,6 +1,6 @@
 -- `flatpack_text::read::count_on` meets its contract.
 use borrow.Author.Tests.{lt-ltb, le-ltb}
-use Rattle.flatpack_text.specs.Machine.{more}
+use Rattle.flatpack_text.specs.Moves.{more}
 use borrow.Author.Needs.{needs}
 use Rattle.flatpack_text.proofs.read.count_on.Statement.{statement}
 use Rattle.flatpack_text.proofs.read.count_on.Tie as tie

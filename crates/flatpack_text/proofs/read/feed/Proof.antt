@@ -3,7 +3,7 @@ use Prim.Native.Nat.{_-_, _≤_}
 use mathlib.Core.Path.{_≡_, sym, ap, _∙_}
 use native.Mathlib.Omega.{arith}
 use lib.ListN.{length, getD, drop}
-use Rattle.flatpack_text.specs.Machine.{fed, fedKept}
+use Rattle.flatpack_text.specs.Moves.{fed, fedKept}
 use Rattle.flatpack_text.proofs.Reading.{fed-next, kept-next, fed-all, kept-all, length-step, feeds}
 use borrow.Author.Needs.{needs}
 use Rattle.flatpack_text.proofs.read.feed.Statement.{statement}

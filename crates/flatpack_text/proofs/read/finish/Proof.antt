@@ -2,7 +2,7 @@
 use mathlib.Core.Path.{_≡_, sym, ap, _∙_}
 use Rattle.flatpack_text.specs.declared.read.Field.{Field}
 use Rattle.flatpack_text.specs.declared.read.State.{State}
-use Rattle.flatpack_text.specs.Machine.{endedAt, finished}
+use Rattle.flatpack_text.specs.Moves.{endedAt, finished}
 use Rattle.flatpack_text.proofs.Moves.{faultAt, not-first, first-is}
 use Rattle.flatpack_text.proofs.Reading.{answers}
 use borrow.Author.Needs.{needs}

@@ -1,7 +1,7 @@
 -- `flatpack_text::read::first_byte` meets its contract: test by test.
 use mathlib.Core.Path.{sym, _∙_}
 use borrow.Author.Tests.{eq-eqb, ne-eqb}
-use Rattle.flatpack_text.specs.Machine.{next}
+use Rattle.flatpack_text.specs.Moves.{next}
 use Rattle.flatpack_text.proofs.Numbers.{digit-low}
 use borrow.Author.Needs.{needs}
 use Rattle.flatpack_text.proofs.read.first_byte.Statement.{statement}

@@ -1,7 +1,7 @@
 -- `flatpack_text::read::keep` meets its contract: four stores, one after the other.
 use Prim.Native.Nat.{_*_}
 use borrow.Author.Tests.{lt-ltb, le-ltb}
-use Rattle.flatpack_text.specs.Machine.{keptAt}
+use Rattle.flatpack_text.specs.Moves.{keptAt}
 use Rattle.flatpack_text.proofs.Tables.{four-stores}
 use borrow.Author.Needs.{needs}
 use Rattle.flatpack_text.proofs.read.keep.Statement.{statement}

@@ -5,7 +5,8 @@ use mathlib.Core.List.{List}
 use Rattle.flatpack_text.specs.declared.read.Field.{Field}
 use Rattle.flatpack_text.specs.declared.read.State.{State}
 use Rattle.flatpack_text.specs.Text.{Slot, asSlot}
-use Rattle.flatpack_text.specs.Machine.{slotNumber, stopped, more, lineEnded, keptAt, lineKept}
+use Rattle.flatpack_text.specs.Machine.{slotNumber, stopped}
+use Rattle.flatpack_text.specs.Moves.{more, lineEnded, keptAt, lineKept}
 use Rattle.flatpack_text.proofs.Moves.{fresh, not-last, last-is}
 use borrow.Author.Needs.{needs}
 use Rattle.flatpack_text.proofs.read.line_feed.Statement.{statement}

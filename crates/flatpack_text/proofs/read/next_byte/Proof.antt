@@ -1,5 +1,5 @@
 -- `flatpack_text::read::next_byte` meets its contract: in each arm the field is known.
-use Rattle.flatpack_text.specs.Machine.{next}
+use Rattle.flatpack_text.specs.Moves.{next}
 use borrow.Author.Needs.{needs}
 use Rattle.flatpack_text.proofs.read.next_byte.Statement.{statement}
 use Rattle.flatpack_text.proofs.read.next_byte.Tie as tie

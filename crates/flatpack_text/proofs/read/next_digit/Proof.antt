@@ -5,7 +5,7 @@ use mathlib.Core.Bool.{true}
 use lib.Dec.{ltb}
 use borrow.Author.Tests.{not-true, not-false, lt-ltb, le-leb, lt-leb}
 use Rattle.flatpack_text.specs.Text.{isDigit}
-use Rattle.flatpack_text.specs.Machine.{next}
+use Rattle.flatpack_text.specs.Moves.{next}
 use Rattle.flatpack_text.proofs.Numbers.{digit-low}
 use borrow.Author.Needs.{needs}
 use Rattle.flatpack_text.proofs.read.next_digit.Statement.{statement}

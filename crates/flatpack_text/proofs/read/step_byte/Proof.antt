@@ -5,7 +5,8 @@ use mathlib.Core.List.{List}
 use borrow.Author.Tests.{ne-eqb}
 use Rattle.flatpack_text.specs.declared.read.Field.{Field}
 use Rattle.flatpack_text.specs.declared.read.State.{State}
-use Rattle.flatpack_text.specs.Machine.{onLine, tabbed, lineEnded, lineKept, step, stepKept}
+use Rattle.flatpack_text.specs.Machine.{onLine}
+use Rattle.flatpack_text.specs.Moves.{tabbed, lineEnded, lineKept, step, stepKept}
 use Rattle.flatpack_text.proofs.Moves.{goesOn}
 use borrow.Author.Needs.{needs}
 use Rattle.flatpack_text.proofs.read.step_byte.Statement.{statement}

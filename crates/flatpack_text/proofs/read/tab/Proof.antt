@@ -3,7 +3,7 @@ use Prim.Native.Nat.{ℕ}
 use native.Mathlib.Omega.{arith}
 use mathlib.Core.Path.{sym, ap, _∙_}
 use Rattle.flatpack_text.specs.declared.read.State.{State}
-use Rattle.flatpack_text.specs.Machine.{tabbedAt, tabbed}
+use Rattle.flatpack_text.specs.Moves.{tabbedAt, tabbed}
 use Rattle.flatpack_text.proofs.Moves.{tab-past}
 use borrow.Author.Needs.{needs}
 use Rattle.flatpack_text.proofs.read.tab.Statement.{statement}

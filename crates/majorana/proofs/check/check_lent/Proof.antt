@@ -1,7 +1,7 @@
 -- `check::check_lent` meets its contract: 17 first, and then the task.
 use mathlib.Core.Path.{_≡_, refl, sym, _∙_}
 use Rattle.refusal.proofs.Bools.{or-left}
-use Rattle.majorana.specs.Sets.{Held}
+use Rattle.majorana.specs.Held.{Held}
 use Rattle.majorana.specs.Rooms.{Same}
 use Rattle.majorana.proofs.SetLaws.{phase-small}
 use borrow.Author.Needs.{needs}

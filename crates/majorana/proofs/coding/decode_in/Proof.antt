@@ -10,7 +10,7 @@ use Rattle.algebra.specs.Coding as algebra
 use Rattle.dense_block.specs.Words.{value, wordsFor}
 use Rattle.dense_block.proofs.Alongs.{copied-whole}
 use Rattle.majorana.specs.Sets.{modesAt}
-use Rattle.majorana.specs.Codes.{readOff, ranList}
+use Rattle.majorana.specs.Runs.{readOff, ranList}
 use Rattle.majorana.proofs.CodeAnswers.{read-done, read-refused}
 use borrow.Author.Needs.{needs}
 use Rattle.majorana.proofs.coding.decode_in.Statement.{statement}

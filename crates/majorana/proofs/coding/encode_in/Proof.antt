@@ -9,7 +9,7 @@ use Rattle.algebra.specs.Coding as algebra
 use Rattle.dense_block.specs.Words.{value}
 use Rattle.dense_block.proofs.Alongs.{copied-whole}
 use Rattle.majorana.specs.Sets.{modesAt}
-use Rattle.majorana.specs.Codes.{kept}
+use Rattle.majorana.specs.Runs.{kept}
 use Rattle.majorana.proofs.CodeAnswers.{ran-done, ran-refused}
 use borrow.Author.Needs.{needs}
 use Rattle.majorana.proofs.coding.encode_in.Statement.{statement}

@@ -8,7 +8,7 @@ use Rattle.refusal.specs.Search.{allBelow}
 use Rattle.refusal.proofs.Searches.{all-here, all-below, all-none}
 use Rattle.algebra.specs.Modes.{paired}
 use Rattle.majorana.specs.Sets.{modesAt}
-use Rattle.majorana.specs.Vacuums.{allPaired}
+use Rattle.majorana.specs.Rooms.{allPaired}
 use borrow.Author.Needs.{needs}
 use Rattle.majorana.proofs.vacuum.all_paired.Statement.{statement}
 use Rattle.majorana.proofs.vacuum.all_paired.Tie as tie

@@ -2,7 +2,7 @@
 use Prim.Native.Nat.{_+_, _-_, _≤_}
 use native.Mathlib.Omega.{arith}
 use mathlib.Core.Path.{refl}
-use Rattle.majorana.specs.Vacuums.{equationOf}
+use Rattle.majorana.specs.Rooms.{equationOf}
 use Rattle.majorana.proofs.CheckLaws.{Filled, fill-next}
 use Rattle.majorana.proofs.VacuumLaws.{length-equation}
 use borrow.Author.Needs.{needs}

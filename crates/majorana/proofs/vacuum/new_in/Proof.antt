@@ -6,7 +6,8 @@ use mathlib.Core.Bool.{false}
 use lib.ListN.{length}
 use Rattle.dense_block.proofs.Values.{length-words-of}
 use Rattle.algebra.specs.Modes.{Modes}
-use Rattle.majorana.specs.Sets.{modesAt, badRows, Held}
+use Rattle.majorana.specs.Sets.{modesAt, badRows}
+use Rattle.majorana.specs.Held.{Held}
 use Rattle.majorana.specs.Vacuums.{vacuum}
 use Rattle.majorana.proofs.SetLaws.{few-bad, phase-small}
 use Rattle.majorana.proofs.VacuumLaws.{whole, new-bad, new-none, new-task}

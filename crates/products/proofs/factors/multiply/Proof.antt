@@ -9,7 +9,8 @@ use lib.ListN.{length}
 use Rattle.refusal.specs.Table.{Lent, _of_}
 use Rattle.refusal.proofs.Bools.{or-left, or-right}
 use Rattle.refusal.proofs.Rooms.{Hold}
-use Rattle.majorana.specs.Sets.{Set, given, badSize, badRows, Fits}
+use Rattle.majorana.specs.Sets.{Set, given, badSize, badRows}
+use Rattle.majorana.specs.Held.{Fits}
 use Rattle.products.specs.Products.{productSize, productShort, productBad, someHigh}
 use Rattle.majorana.proofs.SetLaws.{InSize, in-size, few-words, held-in}
 use Rattle.products.proofs.ProductAnswers.{size-of-set, size-of-product, make-size, make-short, make-value, make-done}

@@ -4,7 +4,7 @@ use mathlib.Core.List.{List}
 use Prim.Native.Nat.{ℕ, _+_, _*_, _%_}
 use Rattle.algebra.specs.Rows.{Row}
 use Rattle.dense_block.specs.Words.{digit, odd, xors}
-use Rattle.products.specs.Products.{rowOf}
+use Rattle.products.specs.Private.{rowOf}
 use Rattle.products.proofs.ProductLaws.{times-words}
 use borrow.Author.Needs.{needs}
 use Rattle.products.proofs.factors.times_row.Statement.{statement}

@@ -6,7 +6,8 @@ use lib.ListN.{length, drop}
 use Rattle.algebra.specs.Rows.{Row, times}
 use Rattle.algebra.specs.Modes.{Modes}
 use Rattle.majorana.specs.Sets.{modesAt}
-use Rattle.products.specs.Products.{productOf, rowOf}
+use Rattle.products.specs.Products.{productOf}
+use Rattle.products.specs.Private.{rowOf}
 use Rattle.products.proofs.ProductLaws.{number-low, product-from, product-step, product-end}
 use borrow.Author.Needs.{needs}
 use Rattle.products.proofs.factors.times_rows.Statement.{statement}

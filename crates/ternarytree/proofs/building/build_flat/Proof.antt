@@ -4,9 +4,9 @@ use mathlib.Core.List.{List}
 use native.Mathlib.Omega.{arith}
 use lib.ListN.{length, getD-replicate}
 use mathlib.Core.Path.{_≡_, refl, sym, _∙_}
-use Rattle.trees.specs.Trees.{Tree}
-use Rattle.ternarytree.specs.Tables.{flat, Wired, Children, verdict, Ready}
-use Rattle.trees.proofs.Naive.{Closed}
+use Rattle.trees.specs.Trees.{Tree, Closed}
+use Rattle.ternarytree.specs.Building.{flat}
+use Rattle.ternarytree.specs.Tables.{Wired, Children, verdict, Ready}
 use Rattle.trees.proofs.Flats.{flatpack-closed}
 use Rattle.ternarytree.proofs.ChainSteps.{children-most}
 use Rattle.ternarytree.proofs.BuildSteps.{flat-ready}

@@ -3,7 +3,7 @@ use native.Mathlib.Omega.{arith}
 use mathlib.Core.Path.{_≡_, _∙_, sym}
 use mathlib.Core.Bool.{false}
 use Rattle.trees.specs.Trees.{Tree, scattered}
-use Rattle.ternarytree.specs.Tables.{flat}
+use Rattle.ternarytree.specs.Building.{flat}
 use Rattle.ternarytree.proofs.ClimbSteps.{parents-most, wired-parents, verdict-slot, verdict-scattered, verdict-missing, verdict-whole, verdict-naive}
 use borrow.Author.Needs.{needs}
 use Rattle.ternarytree.proofs.climbing.check_tree.Statement.{statement}

@@ -5,8 +5,8 @@ use mathlib.Core.Path.{_≡_, refl, _∙_, sym}
 use mathlib.Core.List.{List}
 use lib.ListN.{getD-replicate}
 use Rattle.trees.specs.Trees.{Tree}
-use Rattle.ternarytree.specs.Building.{faultSlot}
-use Rattle.ternarytree.specs.Tables.{flat, slotVerdict}
+use Rattle.ternarytree.specs.Building.{flat, faultSlot}
+use Rattle.ternarytree.specs.Tables.{slotVerdict}
 use Rattle.ternarytree.proofs.WireSteps.{Wiring, wired-none, wiring-child, wiring-below, wiring-fault, wiring-next, wiring-end}
 use borrow.Author.Needs.{needs}
 use Rattle.ternarytree.proofs.reading.wire.Statement.{statement}

@@ -1,11 +1,11 @@
--- `rowreport::show` is safe: the part is no longer than the buffer.
+-- `rowreport::to_error` is safe: the part is no longer than the buffer.
 use mathlib.Core.Path.{sym}
 use lib.Seq.{length-take-le}
 use borrow.Author.Needs.{needs}
-use Rattle.rowreport.proofs.show.Statement.{statement}
-use Rattle.rowreport.proofs.show.Tie as tie
-use Rattle.rowreport.proofs.show.Reads as reads
-use Rattle.rowreport.proofs.show.Lts as lts
+use Rattle.rowreport.proofs.to_error.Statement.{statement}
+use Rattle.rowreport.proofs.to_error.Tie as tie
+use Rattle.rowreport.proofs.to_error.Reads as reads
+use Rattle.rowreport.proofs.to_error.Lts as lts
 use Rattle.io.proofs.write_all.Reads as write-all-reads
 
 slice-aggregate-write-all : tie.Need-slice-aggregate-write-all
@@ -20,5 +20,5 @@ returns c = search needs
 returns-2 : tie.Need-returns-2
 returns-2 c = search needs
 
-pub show-spec : {M : Type 1} → statement M
-show-spec = tie.close (tie.spec slice-aggregate-write-all write-all-requires returns returns-2)
+pub to-error-spec : {M : Type 1} → statement M
+to-error-spec = tie.close (tie.spec slice-aggregate-write-all write-all-requires returns returns-2)
