@@ -1,4 +1,4 @@
--- Rows that lie in their slices, what the tests that every call shares leave known, and what written words stand for.
+-- Rows that lie in their slices, and what the tests that every call shares leave known.
 use Prim.Native.Nat.{ℕ, zero, suc, _+_, _*_, _^_, _≤_, _<_}
 use native.Mathlib.Omega.{arith}
 use mathlib.Core.Path.{_≡_, refl, sym, ap, _∙_}

@@ -45,7 +45,7 @@ use Rattle.report.proofs.OutputExamples.{two-modes, two-modes-report, two-modes
 
 -- A vacuum, list or string has one word, and a set's rows have one word each. A buffer that is lent for writing holds 9 before the call, and is a word longer than needed
 data Case : Type 0 where
-  -- the program writes this report for this text
+  -- the report of this text
   reports : List ℕ → List ℕ → Case
   -- building a named tree on two nodes is done: it writes the rows of this set and the all-zero vacuum
   builds : Named → Set → Case
