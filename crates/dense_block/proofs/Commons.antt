@@ -14,7 +14,7 @@ use Rattle.dense_block.specs.Words.{value}
 use Rattle.dense_block.proofs.Values.{Words, value-drop}
 
 -- rows with x and y as their lowest words
-word-and-rest : (x y u v : ℕ) → x < 2 ^ 64 → y < 2 ^ 64 → common (x + 2 ^ 64 * u) (y + 2 ^ 64 * v) ≡ ones (bitAnd x y) + common u v
+pub word-and-rest : (x y u v : ℕ) → x < 2 ^ 64 → y < 2 ^ 64 → common (x + 2 ^ 64 * u) (y + 2 ^ 64 * v) ≡ ones (bitAnd x y) + common u v
 unfolding common
 word-and-rest x y u v h k =
     ap ones (ap₂ bitAnd (swap x u) (swap y v) ∙ and-block 64 u v x y h k)

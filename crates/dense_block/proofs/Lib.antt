@@ -2,6 +2,7 @@ pub mod Values
 pub mod Columns
 pub mod Alongs
 pub mod Commons
+pub mod Folds
 pub mod Clears
 pub mod Alikes
 pub mod Terms

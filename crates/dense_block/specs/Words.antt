@@ -3,7 +3,7 @@ use Prim.Native.Nat.{ℕ, zero, suc, _+_, _-_, _*_, _/_, _%_, _^_}
 use mathlib.Core.List.{List, [], _∷_, _++_}
 use mathlib.Core.Bool.{Bool, true, false, _&&_}
 use lib.ListN.{getD, set, take, drop}
-use lib.Bits.{bitXor}
+use lib.Bits.{bitAnd, bitXor}
 use lib.Dec.{eqb, ltb}
 use Rattle.refusal.specs.Search.{someBelow}
 use Rattle.algebra.specs.Rows.{bit, dot}
@@ -53,6 +53,12 @@ xors ds ss = along bitXor ds ss
 
 abbrev pub copied : List ℕ → List ℕ → List ℕ
 copied ds ss = along (λ d s. s) ds ss
+
+-- the common ones of two rows, word by word, folded into one word by xor, over the shorter length
+abbrev pub folded : List ℕ → List ℕ → ℕ
+folded [] ys = 0
+folded (x ∷ xs) [] = 0
+folded (x ∷ xs) (y ∷ ys) = bitXor (bitAnd x y) (folded xs ys)
 
 -- the number of common ones is odd
 unfoldable pub odd : List ℕ → List ℕ → Bool

@@ -4,17 +4,20 @@
 //   words_for                       how many words a row takes
 //   get_index, set_index            one column
 //   xor_assign                      a row added to another, word by word
+//   fold_and, fold_both, parity     the common ones of rows folded into a word, and the parity of its ones
 //   parity_and, and_count_ones      the common ones of two rows: their parity, their number
 //   clear, copy, same, stray        words made zero, copied and compared; a bit past the last column
 //   get_term, stray_block           a row of a block of rows; a bit past the last column in one of them
 
 ghost use mathlib.Core.Path.{_≡_};
 ghost use Prim.Native.Nat.{ℕ, _+_, _*_, _/_, _%_, _^_, _<_, _≤_, min};
-ghost use lib.Dec.{ltb};
+ghost use lib.Dec.{eqb, ltb};
 ghost use lib.ListN.{length, getD};
+ghost use lib.Bits.{bitXor};
+ghost use lib.Count.{ones};
 ghost use Rattle.refusal.specs.Search.{someBelow};
-ghost use Rattle.algebra.specs.Rows.{common};
-ghost use Rattle.dense_block.specs.Words.{value, wordsFor, column, put, xors, odd, zeroed, copied, alike, strays, termOf, straysIn};
+ghost use Rattle.algebra.specs.Rows.{common, dot};
+ghost use Rattle.dense_block.specs.Words.{value, wordsFor, column, put, xors, folded, odd, zeroed, copied, alike, strays, termOf, straysIn};
 
 // How many words a row of q columns takes.
 pub fn words_for(q: usize) -> usize
@@ -73,9 +76,10 @@ pub fn xor_assign(dst: &mut [u64], src: &[u64])
     }
 }
 
-// Whether the number of common ones is odd. The xor of words has the parity of all their ones together, so they are counted once.
-pub fn parity_and(a: &[u64], b: &[u64]) -> bool
-    ensures { λ r. ⌜ r ≡ odd (now (a .entry)) (now (b .entry)) ⌝ }
+// The words of the common ones of two rows, folded into one by xor. Ones that meet in it fall away two by two, so it keeps their parity, and not their number.
+pub fn fold_and(a: &[u64], b: &[u64]) -> u64
+    ensures word { λ r. ⌜ r ≡ folded (now (a .entry)) (now (b .entry)) ⌝ }
+    ensures parity { λ r. ⌜ ones r % 2 ≡ dot (value (now (a .entry))) (value (now (b .entry))) ⌝ }
 {
     let n = least(a.len(), b.len());
     let mut sum: u64 = 0;
@@ -84,10 +88,43 @@ pub fn parity_and(a: &[u64], b: &[u64]) -> bool
         sum = sum ^ (a[at] & b[at]);
         at += 1;
     }
-    u64::count_ones(sum) % 2 == 1
+    sum
 }
 
-// The number of common ones, modulo 2^32: of an X part and a Z part, the number of Y columns.
+// The folds of a with b and of c with d in one, for an answer that takes both parities. Rows of one length are gone along together.
+pub fn fold_both(a: &[u64], b: &[u64], c: &[u64], d: &[u64]) -> u64
+    ensures word { λ r. ⌜ r ≡ bitXor (folded (now (a .entry)) (now (b .entry))) (folded (now (c .entry)) (now (d .entry))) ⌝ }
+    ensures parity { λ r. ⌜ ones r % 2 ≡ (dot (value (now (a .entry))) (value (now (b .entry))) + dot (value (now (c .entry))) (value (now (d .entry)))) % 2 ⌝ }
+{
+    let n = least(a.len(), b.len());
+    if least(c.len(), d.len()) != n {
+        return fold_and(a, b) ^ fold_and(c, d);
+    }
+    let mut sum: u64 = 0;
+    let mut i = 0;
+    while i < n {
+        sum = sum ^ ((a[i] & b[i]) ^ (c[i] & d[i]));
+        i += 1;
+    }
+    sum
+}
+
+// Whether a word has an odd number of ones.
+pub fn parity(word: u64) -> bool
+    ensures { λ r. ⌜ r ≡ eqb (ones word % 2) 1 ⌝ }
+{
+    u64::count_ones(word) % 2 == 1
+}
+
+// Whether the number of common ones is odd. They are folded, and counted once.
+pub fn parity_and(a: &[u64], b: &[u64]) -> bool
+    ensures { λ r. ⌜ r ≡ odd (now (a .entry)) (now (b .entry)) ⌝ }
+{
+    parity(fold_and(a, b))
+}
+
+// The number of common ones, modulo 2^32: of an X part and a Z part, the number of Y columns. It is counted word by word: letter power and MaxNTO's phases take it
+// modulo 4, and a fold would keep its parity alone.
 pub fn and_count_ones(a: &[u64], b: &[u64]) -> u32
     ensures { λ r. ⌜ r ≡ common (value (now (a .entry))) (value (now (b .entry))) % 2 ^ 32 ⌝ }
 {

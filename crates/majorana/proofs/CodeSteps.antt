@@ -2,17 +2,20 @@
 use Prim.Native.Nat.{ℕ, zero, suc, _+_, _-_, _*_, _/_, _%_, _^_, _≤_, _<_}
 use native.Mathlib.Nat.{pow-suc, mul-assoc, mul-comm, mul-div-cancel, add-mul, one-mul, add-zero}
 use native.Mathlib.Omega.{arith}
-use mathlib.Core.Path.{_≡_, refl, sym, ap, _∙_}
+use mathlib.Core.Path.{_≡_, refl, ap, _∙_}
 use mathlib.Core.Bool.{Bool, true, false, cond}
 use borrow.Author.Tests.{eqb-true, eqb-false}
+use lib.Bits.{bitXor}
+use lib.Count.{ones}
 use lib.Dec.{eqb}
 use lib.Pow.{pow-pos}
-use Rattle.algebra.specs.Rows.{bit, state, phase}
+use Rattle.algebra.specs.Rows.{bit, common, dot, Row, state, phase}
 use Rattle.algebra.specs.Modes.{Modes, lo, paired, empty}
-use Rattle.algebra.specs.Coding.{when, Encoded, done, refused, occupy, encodeFrom, Decoded, found, foreign, seen, decodeFrom}
+use Rattle.algebra.specs.Coding.{when, Encoded, done, refused, occupy, encodeFrom, found, foreign, seen, decodeFrom}
 use Rattle.algebra.proofs.Digits.{bit-lt}
+use Rattle.algebra.proofs.Dots.{ones-zero, ones-xor}
 use Rattle.algebra.proofs.Operators.{encode-refused}
-use Rattle.dense_block.specs.Words.{putBit}
+use Rattle.dense_block.specs.Words.{digit, putBit}
 use Rattle.majorana.specs.Runs.{readOff}
 
 -- ---- encoding
@@ -42,6 +45,32 @@ module _ (m : Modes) (l : ℕ) where
   pub step-refuse : (i s f : ℕ) → 0 < i → eqb (bit l (i - 1)) 1 ≡ true → empty m (i - 1) s ≡ false → encodeFrom m l i (done s f) ≡ refused
   unfolding occupy
   step-refuse i s f h e g = step i (done s f) h ∙ rw (eqb-true (bit l (i - 1)) 1 e, g) (encode-refused m l (i - 1))
+
+-- the phase so far is what was added and twice the ones folded
+
+double : (p x y : ℕ) → x % 2 ≡ y % 2 → (p + 2 * x) % 4 ≡ (p + 2 * y) % 4
+double p x y h = omega arith
+
+pub phase-none : (0 + 2 * ones 0) % 4 ≡ 0
+phase-none = omega (arith, ones-zero)
+
+pub phase-next : (r : Row) (s f g fold first : ℕ) → g ≡ (f + r .p) % 4 → ones first % 2 ≡ dot (r .z) s
+    → (g + 2 * ones (bitXor fold first)) % 4 ≡ ((f + 2 * ones fold) % 4 + phase r s) % 4
+unfolding dot
+phase-next r s f g fold first e h =
+    double g (ones (bitXor fold first)) (ones fold + common (r .z) s) (omega (arith, ones-xor fold first, h))
+    ∙ sums (r .p) (ones fold) (common (r .z) s) e
+  where
+    sums : (p a t : ℕ) → g ≡ (f + p) % 4 → (g + 2 * (a + t)) % 4 ≡ ((f + 2 * a) % 4 + (p + 2 * t) % 4) % 4
+    sums p a t e = omega arith
+
+pub counted : (f u : ℕ) → (f + 2 * digit (eqb (u % 2) 1)) % 4 ≡ (f + 2 * u) % 4
+counted f u = omega (arith, bool (u % 2) (omega arith))
+  where
+    bool : (k : ℕ) → k < 2 → digit (eqb k 1) ≡ k
+    bool zero h = refl
+    bool (suc zero) h = refl
+    bool (suc (suc k)) h = absurd (omega arith)
 
 -- ---- decoding
 

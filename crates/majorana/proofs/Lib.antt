@@ -4,6 +4,7 @@ pub mod FindingTheorems
 pub mod Cases
 pub mod SetLaws
 pub mod ModeLaws
+pub mod WalkLaws
 pub mod CodeSteps
 pub mod CodeAnswers
 pub mod CheckLaws

@@ -3,33 +3,24 @@ use Prim.Native.Nat.{ℕ, zero, suc, _+_, _-_, _*_, _/_, _%_, _≤_, _<_}
 use native.Mathlib.Omega.{arith}
 use mathlib.Core.Path.{_≡_, refl, sym, ap, _∙_}
 use mathlib.Core.List.{List}
-use mathlib.Core.Bool.{Bool, true, false, not, Bool·beq}
+use mathlib.Core.Bool.{true, false, not, Bool·beq}
+use borrow.Author.Tests.{eqb-true}
 use lib.Dec.{eqb, ltb}
 use lib.ListN.{length, getD}
-use Rattle.algebra.specs.Rows.{dot, state, phase}
-use Rattle.algebra.specs.Modes.{Modes, lo, e, d, paired}
-use Rattle.algebra.proofs.Dots.{dot-lt, dot-xor-l}
-use Rattle.dense_block.specs.Words.{value, termOf, alike, odd, digit, xors}
+use Rattle.refusal.proofs.Bools.{and-right}
+use Rattle.algebra.specs.Rows.{dot, state}
+use Rattle.algebra.specs.Modes.{Modes, lo, hi, e, d, paired}
+use Rattle.algebra.proofs.Dots.{dot-xor-l}
+use Rattle.dense_block.specs.Words.{value, termOf, alike, xors}
 use Rattle.dense_block.proofs.Values.{Words}
 use Rattle.dense_block.proofs.Alikes.{alike-value}
 use Rattle.dense_block.proofs.Alongs.{value-xors}
 use Rattle.dense_block.proofs.Terms.{words-term, length-term}
-use Rattle.pauli.proofs.Products.{sign-of}
 use Rattle.majorana.specs.Sets.{modesAt}
 use Rattle.majorana.specs.Held.{Held}
 use Rattle.majorana.proofs.SetLaws.{x-row, z-row}
 
 -- ---- parities
-
--- two parities differ
-differ : (a b : ℕ) → a < 2 → b < 2 → not (Bool·beq (eqb a 1) (eqb b 1)) ≡ eqb ((a + b) % 2) 1
-differ zero zero h k = refl
-differ zero (suc zero) h k = refl
-differ (suc zero) zero h k = refl
-differ (suc zero) (suc zero) h k = refl
-differ zero (suc (suc b)) h k = absurd (omega arith)
-differ (suc zero) (suc (suc b)) h k = absurd (omega arith)
-differ (suc (suc a)) b h k = absurd (omega arith)
 
 -- a parity against half an even difference
 pub parity-half : (u c : ℕ) → u < 2 → c < 4 → c % 2 ≡ 0 → Bool·beq (eqb u 1) (eqb c 2) ≡ eqb u (c / 2)
@@ -62,6 +53,11 @@ pub d-below : (m : Modes) (i : ℕ) → d m i < 4
 unfolding d
 d-below m i = omega arith
 
+-- of a paired mode it is even
+pub paired-even : (m : Modes) (i : ℕ) → paired m i ≡ true → d m i % 2 ≡ 0
+unfolding paired
+paired-even m i h = eqb-true (d m i % 2) 0 (and-right (eqb (lo m i .x) (hi m i .x)) (eqb (d m i % 2) 0) h)
+
 -- ---- mode i of rows that are held
 
 module _ {n w : ℕ} {xs zs ps : List ℕ} (held : Held n w xs zs ps) (i : ℕ) (low : i < n) where
@@ -87,7 +83,7 @@ module _ {n w : ℕ} {xs zs ps : List ℕ} (held : Held n w xs zs ps) (i : ℕ) 
   unfolding d
   difference-is = ap (λ (k : ℕ). k % 4) (omega (arith, p-lo))
 
-  same-x : Words xs → alike (termOf w xs (2 * i)) (termOf w xs (2 * i + 1)) ≡ eqb (value (termOf w xs (2 * i))) (value (termOf w xs (2 * i + 1)))
+  pub same-x : Words xs → alike (termOf w xs (2 * i)) (termOf w xs (2 * i + 1)) ≡ eqb (value (termOf w xs (2 * i))) (value (termOf w xs (2 * i + 1)))
   same-x px =
       alike-value (termOf w xs (2 * i)) (termOf w xs (2 * i + 1)) (length-term w xs (2 * i) x-lo ∙ sym (length-term w xs (2 * i + 1) x-hi))
       (words-term w xs (2 * i) px) (words-term w xs (2 * i + 1) px)
@@ -101,13 +97,10 @@ module _ {n w : ℕ} {xs zs ps : List ℕ} (held : Held n w xs zs ps) (i : ℕ) 
   unfolding paired
   paired-by px c h k = rw (sym (same-x px) ∙ h, k)
 
-  pub reads-is : (t : List ℕ) → not (Bool·beq (odd (termOf w zs (2 * i)) t) (odd (termOf w zs (2 * i + 1)) t)) ≡ eqb (dot (e (modesAt n w xs zs ps) i) (value t)) 1
-  unfolding e odd
-  reads-is t = differ (dot (value (termOf w zs (2 * i))) (value t)) (dot (value (termOf w zs (2 * i + 1))) (value t)) (dot-lt _ _) (dot-lt _ _) ∙ rw dot-xor-l
-
-  pub turn : (t : List ℕ) (f p g : ℕ) → p ≡ (getD ps (2 * i) 0 + 2 * digit (odd (termOf w zs (2 * i)) t)) % 4 → g ≡ (f + p) % 4
-      → g ≡ (f + phase (lo (modesAt n w xs zs ps) i) (value t)) % 4
-  turn t f p g h k = k ∙ ap (λ (r : ℕ). (f + r) % 4) (h ∙ sign-of (getD ps (2 * i) 0) (termOf w zs (2 * i)) t)
+  -- both Z parts' parities are that of e
+  pub reads-is : (t u : ℕ) → u ≡ (dot (value (termOf w zs (2 * i))) t + dot (value (termOf w zs (2 * i + 1))) t) % 2 → u ≡ dot (e (modesAt n w xs zs ps) i) t
+  unfolding e
+  reads-is t u h = h ∙ sym (dot-xor-l (value (termOf w zs (2 * i))) (value (termOf w zs (2 * i + 1))) t)
 
   pub moved : (t : List ℕ) → length t ≡ w → Words xs → Words t → value (xors t (termOf w xs (2 * i))) ≡ state (lo (modesAt n w xs zs ps) i) (value t)
   moved t len px pt = value-xors t (termOf w xs (2 * i)) (omega (arith, length-term w xs (2 * i) x-lo)) pt (words-term w xs (2 * i) px)

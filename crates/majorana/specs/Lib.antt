@@ -7,3 +7,4 @@ pub mod Accepted
 pub mod Held
 pub mod Rooms
 pub mod Runs
+pub mod Walks

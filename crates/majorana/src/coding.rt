@@ -16,7 +16,8 @@ ghost use Rattle.majorana.specs.Held.{Held};
 ghost use Rattle.majorana.specs.Codes.{undecodable, encodedPaper};
 ghost use Rattle.majorana.specs.Runs.{kept, readOff, ran, ranOut, ranList};
 
-// Starts the state s at the vacuum and occupies the modes of the list in it.
+// Starts the state s at the vacuum and occupies the modes of the list in it. The phase grows by p0 + 2(z0·s) a mode: the p0 are added, the z0·s folded, and the ones
+// of all the folds counted once.
 fn occupy_all(
     modes: usize,
     w: usize,
@@ -32,18 +33,23 @@ fn occupy_all(
 {
     dense_block::copy(s, vacuum);
     let mut f = Phase { power: 0 };
+    let mut fold = 0u64;
     let mut k = modes;
     while 0 < k {
         k -= 1;
         if dense_block::get_index(list, k) {
-            if !mode::is_empty(modes, w, x, z, phases, k, s) {
+            let d = mode::difference(modes, w, x, z, phases, k);
+            let t = mode::act(modes, w, x, z, phases, k, s);
+            if !t.is_empty(d) {
                 return Encoded::Refused(Refusal::Unencodable);
             }
-            f = mode::turned(modes, w, x, z, phases, k, s, f);
-            dense_block::xor_assign(s, row(w, 2 * k, x));
+            f = f.add(Phase {
+                power: phases[2 * k],
+            });
+            fold = fold ^ t.first;
         }
     }
-    Encoded::Done(f)
+    Encoded::Done(f.double_parity(dense_block::parity(fold)))
 }
 
 // Encodes the list in the w words of s, and copies them to out if every mode went well.
@@ -105,10 +111,12 @@ fn read_off(
     let mut i = modes;
     while 0 < i {
         i -= 1;
-        if !mode::is_paired(modes, w, x, z, phases, i) {
+        let d = mode::difference(modes, w, x, z, phases, i);
+        let t = mode::look(modes, w, x, z, phases, i, s);
+        if !t.is_paired(d) {
             return false;
         }
-        if mode::is_seen(modes, w, x, z, phases, i, s) {
+        if t.is_seen(d) {
             dense_block::set_index(l, i, true);
             dense_block::xor_assign(s, row(w, 2 * i, x));
         }

@@ -17,6 +17,7 @@ mod coding;
 mod mode;
 mod rows;
 mod vacuum;
+mod walk;
 
 use pauli::Phase;
 use refusal::Answer;

@@ -1,17 +1,18 @@
 // One mode: its X parts and phase difference, what it reads of a state, and the vacuum rule.
 
 use crate::rows::row;
-use pauli::Phase;
+use crate::walk;
+use crate::walk::Walk;
 ghost use mathlib.Core.Path.{_≡_};
-ghost use Prim.Native.Nat.{_+_, _*_, _%_, _<_};
+ghost use Prim.Native.Nat.{_<_};
 ghost use lib.Dec.{eqb};
 ghost use lib.ListN.{length};
-ghost use Rattle.algebra.specs.Rows.{dot, phase};
+ghost use Rattle.algebra.specs.Rows.{dot, state};
 ghost use Rattle.algebra.specs.Modes.{lo, e, d, paired, empty, vacuumRule};
-ghost use Rattle.algebra.specs.Coding.{seen};
 ghost use Rattle.dense_block.specs.Words.{value};
 ghost use Rattle.majorana.specs.Sets.{modesAt};
 ghost use Rattle.majorana.specs.Held.{Held};
+ghost use Rattle.majorana.specs.Walks.{Looked};
 
 // The phase difference d of mode i.
 pub fn difference(modes: usize, w: usize, x: &[u64], z: &[u64], phases: &[u8], i: usize) -> u8
@@ -43,11 +44,11 @@ fn reads(modes: usize, w: usize, x: &[u64], z: &[u64], phases: &[u8], i: usize, 
 {
     let a = 2 * i;
     let b = a + 1;
-    dense_block::parity_and(row(w, a, z), s) != dense_block::parity_and(row(w, b, z), s)
+    dense_block::parity(dense_block::fold_both(row(w, a, z), s, row(w, b, z), s))
 }
 
 // Whether mode i is empty in the state s: X parts agree, d is even, and e·s = d/2 mod 2.
-pub fn is_empty(
+fn is_empty(
     modes: usize,
     w: usize,
     x: &[u64],
@@ -65,8 +66,8 @@ pub fn is_empty(
     reads(modes, w, x, z, phases, i, s) == (difference(modes, w, x, z, phases, i) == 2)
 }
 
-// Whether mode i is occupied in the state s: e·s differs from d/2.
-pub fn is_seen(
+// What a walk along the rows of mode i tells of the state s.
+pub fn look(
     modes: usize,
     w: usize,
     x: &[u64],
@@ -74,30 +75,32 @@ pub fn is_seen(
     phases: &[u8],
     i: usize,
     s: &[u64],
-) -> bool
-    requires { ⌜ Held modes w (now x) (now z) (now phases) × (i < modes) ⌝ }
-    ensures { λ r. ⌜ r ≡ eqb (seen (modesAt modes w (now (x .entry)) (now (z .entry)) (now (phases .entry))) i (value (now (s .entry)))) 1 ⌝ }
-{
-    reads(modes, w, x, z, phases, i, s) != (1 < difference(modes, w, x, z, phases, i))
-}
-
-// The phase f after the first row of mode i acts on the state s: p0 + 2(z0·s) more.
-pub fn turned(
-    modes: usize,
-    w: usize,
-    x: &[u64],
-    z: &[u64],
-    phases: &[u8],
-    i: usize,
-    s: &[u64],
-    f: Phase,
-) -> Phase
-    requires { ⌜ Held modes w (now x) (now z) (now phases) × (i < modes) ⌝ }
-    ensures { λ r. ⌜ r .power ≡ (f .power + phase (lo (modesAt modes w (now (x .entry)) (now (z .entry)) (now (phases .entry))) i) (value (now (s .entry)))) % 4 ⌝ }
+) -> Walk
+    requires { ⌜ Held modes w (now x) (now z) (now phases) × (i < modes) × (length (now s) ≡ w) ⌝ }
+    ensures { λ r. ⌜ Looked (modesAt modes w (now (x .entry)) (now (z .entry)) (now (phases .entry))) i (value (now (s .entry))) r ⌝ }
 {
     let a = 2 * i;
-    let p = Phase { power: phases[a] };
-    f.add(p.double_parity(dense_block::parity_and(row(w, a, z), s)))
+    let b = a + 1;
+    walk::beside(row(w, a, x), row(w, b, x), row(w, a, z), row(w, b, z), s)
+}
+
+// The same, and the state s becomes what the first row of mode i makes of it. The phase of that is for the caller to add.
+pub fn act(
+    modes: usize,
+    w: usize,
+    x: &[u64],
+    z: &[u64],
+    phases: &[u8],
+    i: usize,
+    s: &mut [u64],
+) -> Walk
+    requires { ⌜ Held modes w (now x) (now z) (now phases) × (i < modes) × (length (now s) ≡ w) ⌝ }
+    ensures { λ r. ⌜ Looked (modesAt modes w (now (x .entry)) (now (z .entry)) (now (phases .entry))) i (value (now (s .entry))) r
+        × (value (now (s .exit)) ≡ state (lo (modesAt modes w (now (x .entry)) (now (z .entry)) (now (phases .entry))) i) (value (now (s .entry)))) ⌝ }
+{
+    let a = 2 * i;
+    let b = a + 1;
+    walk::across(row(w, a, x), row(w, b, x), row(w, a, z), row(w, b, z), s)
 }
 
 // Whether every mode is empty in the state v.

@@ -247,6 +247,58 @@ fn product(a: usize, b: usize) {
     text(b"\n");
 }
 
+// Whether two rows have an odd number of common ones.
+fn common(case: &[u8], a: &[u64], b: &[u64]) {
+    text(b"common ones of ");
+    text(case);
+    if dense_block::parity_and(a, b) {
+        text(b": odd\n");
+    } else {
+        text(b": even\n");
+    }
+}
+
+// Whether the common ones of a and b and those of c and d are odd in number together.
+fn common_two(case: &[u8], a: &[u64], b: &[u64], c: &[u64], d: &[u64]) {
+    text(b"common ones of ");
+    text(case);
+    if dense_block::parity(dense_block::fold_both(a, b, c, d)) {
+        text(b": odd\n");
+    } else {
+        text(b": even\n");
+    }
+}
+
+fn parities() {
+    let all = [0xffff_ffff_ffff_ffffu64; 4];
+    let but_last = [
+        0xffff_ffff_ffff_ffffu64,
+        0xffff_ffff_ffff_ffff,
+        0xffff_ffff_ffff_ffff,
+        0x7fff_ffff_ffff_ffff,
+    ];
+    common(b"words 1 1 and 1 1", &[1u64, 1], &[1u64, 1]);
+    common(b"words 1 1 and 1 0", &[1u64, 1], &[1u64, 0]);
+    common(b"256 columns", &all, &all);
+    common(b"255 columns", &all, &but_last);
+    common(b"words 1 1 1 and 1", &[1u64, 1, 1], &[1u64]);
+    common(b"words 1 1 and 1 1 1", &[1u64, 1], &[1u64, 1, 1]);
+    common_two(
+        b"words 1 1 and 1 1, 1 1 and 1 0",
+        &[1u64, 1],
+        &[1u64, 1],
+        &[1u64, 1],
+        &[1u64, 0],
+    );
+    common_two(
+        b"words 1 1 and 1 0, 1 and 1 1 1",
+        &[1u64, 1],
+        &[1u64, 0],
+        &[1u64],
+        &[1u64, 1, 1],
+    );
+}
+
 fn codes() {
     let phases = [0u8, 1, 0, 1];
     encode(
@@ -317,4 +369,5 @@ fn main() {
     maxnto(255);
     maxnto(256);
     leaf(513);
+    parities();
 }

@@ -1,9 +1,6 @@
--- `check::commute` meets its contract: the parities of the two crossed products.
-use mathlib.Core.Path.{_≡_, ap₂, _∙_}
-use mathlib.Core.List.{List}
-use mathlib.Core.Bool.{Bool, Bool·beq}
-use Prim.Native.Nat.{ℕ}
-use Rattle.dense_block.specs.Words.{odd}
+-- `check::commute` meets its contract: the parity of both crossed products.
+use mathlib.Core.Path.{ap, _∙_}
+use mathlib.Core.Bool.{not}
 use Rattle.majorana.proofs.SetLaws.{x-row, z-row}
 use Rattle.majorana.proofs.CheckLaws.{commute-by}
 use borrow.Author.Needs.{needs}
@@ -16,23 +13,24 @@ row-requires c κs = let s = c .before .before .before in x-row (s .pre .0) (s .
 row-requires-2 : tie.Need-row-requires-2
 row-requires-2 c κs = let s = c .before .before .before .before in z-row (s .pre .0) (s .args .k) (s .pre .2)
 
-parity-and-requires : tie.Need-parity-and-requires
-parity-and-requires c κs = search needs
-
 row-requires-3 : tie.Need-row-requires-3
-row-requires-3 c κs = let s = c .before .before .before .before .before .before in z-row (s .pre .0) (s .args .j) (s .pre .1)
+row-requires-3 c κs = let s = c .before .before .before .before .before in z-row (s .pre .0) (s .args .j) (s .pre .1)
 
 row-requires-4 : tie.Need-row-requires-4
-row-requires-4 c κs = let s = c .before .before .before .before .before .before .before in x-row (s .pre .0) (s .args .k) (s .pre .2)
+row-requires-4 c κs = let s = c .before .before .before .before .before .before in x-row (s .pre .0) (s .args .k) (s .pre .2)
 
-parity-and-requires-2 : tie.Need-parity-and-requires-2
-parity-and-requires-2 c κs = search needs
+fold-both-requires : tie.Need-fold-both-requires
+fold-both-requires c κs = search needs
+
+parity-requires : tie.Need-parity-requires
+parity-requires c κs = search needs
 
 returns : tie.Need-returns
 returns c =
-    let a = c .before .before .before .before .before .before .before .before .before .args in
-    ap₂ Bool·beq (c .before .before .before .parity-and .ensures ∙ ap₂ odd (c .before .before .before .before .before .row .ensures) (c .before .before .before .before .row2 .ensures)) (c .parity-and2 .ensures ∙ ap₂ odd (c .before .before .row3 .ensures) (c .before .row4 .ensures))
-    ∙ commute-by (a .w) (a .x .now) (a .z .now) (a .phases .now) (a .j) (a .k)
+    let r = c .before .before in
+    let a = r .before .before .before .before .before .before .before .args in
+    let both = rw (r .before .before .before .row .ensures, r .before .before .row2 .ensures, r .before .row3 .ensures, r .row4 .ensures) at (c .before .fold-both .ensures .1) in
+    ap not (c .parity .ensures) ∙ commute-by (a .w) (a .x .now) (a .z .now) (a .phases .now) (a .j) (a .k) _ both
 
 pub commute-spec : {M : Type 1} → statement M
 commute-spec =
@@ -40,8 +38,8 @@ commute-spec =
     (tie.spec
     row-requires
     row-requires-2
-    parity-and-requires
     row-requires-3
     row-requires-4
-    parity-and-requires-2
+    fold-both-requires
+    parity-requires
     returns)

@@ -10,14 +10,16 @@ use lib.Dec.{eqb}
 use lib.ListN.{length}
 use Rattle.algebra.specs.Rows.{state}
 use Rattle.algebra.specs.Modes.{Modes, lo, paired}
-use Rattle.algebra.specs.Coding.{decodeFrom, decode}
+use Rattle.algebra.specs.Coding.{seen, decodeFrom, decode}
 use Rattle.dense_block.specs.Words.{value}
 use Rattle.dense_block.proofs.Values.{Words}
 use Rattle.dense_block.proofs.Alongs.{length-along}
 use Rattle.dense_block.proofs.Alikes.{alike-value}
 use Rattle.dense_block.proofs.Columns.{value-put}
 use Rattle.majorana.specs.Sets.{modesAt}
+use Rattle.majorana.specs.Walks.{pairedBy, seenBy}
 use Rattle.majorana.proofs.ModeLaws.{x-lo, moved}
+use Rattle.majorana.proofs.WalkLaws.{paired-told, seen-told}
 use Rattle.majorana.proofs.CodeSteps.{picked, back-end, back-unpaired, back-seen, back-unseen, digit-none, digit-one}
 use borrow.Author.Needs.{needs}
 use Rattle.majorana.proofs.coding.read_off.Statement.{statement}
@@ -41,8 +43,18 @@ rows c = let a = c .args in modesAt (a .modes) (a .w) (a .x .now) (a .z .now) (a
 abbrev left : tie.Start Inv-loop μ-loop → ℕ
 left c = value (c .args .vacuum .now)
 
-is-pair : (c : tie.Else1 Inv-loop μ-loop) → paired (rows (c .before .before .before .before .before .before .before .before .before .before)) (c .before .before .before .loop .i - 1) ≡ true
-is-pair c = let t : c .before .is-paired .result ≡ true = not-false _ (c .if1 .left) in sym (c .before .is-paired .ensures) ∙ t
+abbrev begun : tie.At-loop Inv-loop μ-loop → tie.Start Inv-loop μ-loop
+begun c = c .before .before .before .before .before .before .before
+
+abbrev turn : tie.After-is-paired Inv-loop μ-loop → tie.At-loop Inv-loop μ-loop
+turn c = c .before .before .before .before .before
+
+-- what the walk told of the mode
+is-pair : (c : tie.After-is-paired Inv-loop μ-loop) → paired (rows (begun (turn c))) (turn c .loop .i - 1) ≡ c .is-paired .result
+is-pair c = let w = c .before .look in sym (c .is-paired .ensures ∙ ap (pairedBy (w .result)) (c .before .before .before .difference .ensures) ∙ paired-told (w .ensures))
+
+sees : (c : tie.After-is-seen Inv-loop μ-loop) → let t = turn (c .before .before) in eqb (seen (rows (begun t)) (t .loop .i - 1) (value (t .loop .s))) 1 ≡ c .is-seen .result
+sees c = let p = c .before .before .before in sym (c .is-seen .ensures ∙ ap (seenBy (p .look .result)) (p .before .before .difference .ensures) ∙ seen-told (p .look .ensures))
 
 loop-holds : tie.Need-loop-holds Inv-loop μ-loop
 unfolding decode
@@ -53,8 +65,14 @@ loop-holds c =
 sub-i : tie.Need-sub-i Inv-loop μ-loop
 sub-i c = search needs
 
+difference-requires : tie.Need-difference-requires Inv-loop μ-loop
+difference-requires c κs = (begun (c .before) .pre .0, omega arith)
+
+look-requires : tie.Need-look-requires Inv-loop μ-loop
+look-requires c κs = let l = c .before .before .before in (begun l .pre .0, omega arith, l .loop .inv .1)
+
 is-paired-requires : tie.Need-is-paired-requires Inv-loop μ-loop
-is-paired-requires c κs = let l = c .before .loop in (c .before .before .before .before .before .before .before .before .pre .0, omega arith)
+is-paired-requires c κs = search needs
 
 same-length : tie.Need-same-length Inv-loop μ-loop
 same-length c = search needs
@@ -64,21 +82,22 @@ same-length-2 c = search needs
 
 returns : tie.Need-returns Inv-loop μ-loop
 returns c =
-    let l = c .before .before .before .loop in
-    let t : c .before .is-paired .result ≡ false = not-true _ (c .if1 .taken) in
-    sym (back-unpaired (rows (c .before .before .before .before .before .before .before .before .before .before)) (left (c .before .before .before .before .before .before .before .before .before .before)) (l .i) (l .inv .5 .0) (value (l .s)) (omega arith) (sym (c .before .is-paired .ensures) ∙ t)) ∙ l .inv .5 .2
+    let t = turn (c .before) in
+    let l = t .loop in
+    let none : c .before .is-paired .result ≡ false = not-true _ (c .if1 .taken) in
+    sym (back-unpaired (rows (begun t)) (left (begun t)) (l .i) (l .inv .5 .0) (value (l .s)) (omega arith) (is-pair (c .before) ∙ none)) ∙ l .inv .5 .2
 
 is-seen-requires : tie.Need-is-seen-requires Inv-loop μ-loop
-is-seen-requires c κs = let l = c .before .before .before .before .loop in (c .before .before .before .before .before .before .before .before .before .before .before .pre .0, omega arith)
+is-seen-requires c κs = search needs
 
 set-index-requires : tie.Need-set-index-requires Inv-loop μ-loop
 set-index-requires c κs = search needs
 
 mul-row : tie.Need-mul-row Inv-loop μ-loop
-mul-row c = search needs
+mul-row c = let t = turn (c .before .before .before .before .before .before .before .before) in record { fits = omega (arith, t .loop .inv .0, begun t .pre .0 .fits .modes) }
 
 row-requires : tie.Need-row-requires Inv-loop μ-loop
-row-requires c κs = let l = c .before .before .before .before .before .before .before .before .before .before .before .loop in x-lo (c .before .before .before .before .before .before .before .before .before .before .before .before .before .before .before .before .before .before .pre .0) (l .i - 1) (omega arith)
+row-requires c κs = let t = turn (c .before .before .before .before .before .before .before .before) in x-lo (begun t .pre .0) (t .loop .i - 1) (omega arith)
 
 xor-assign-requires : tie.Need-xor-assign-requires Inv-loop μ-loop
 xor-assign-requires c κs = search needs
@@ -88,23 +107,26 @@ loop-less c = search needs
 
 loop-again : tie.Need-loop-again Inv-loop μ-loop
 loop-again c =
-    let s = c .before .before .before .before .before .before .before .before .before .before .before .before .before .before .before .before .before .before .before .before .before .before in
-    let l = c .before .before .before .before .before .before .before .before .before .before .before .before .before .before .before .loop in
+    let k = c .before .before .before .before .before .before .before .before .before .before in
+    let t = turn (k .before .before) in
+    let s = begun t in
+    let l = t .loop in
     let put = c .before .before .before .before .before .before .before .set-index in
     let xor = c .before .before .xor-assign .ensures in
+    let pair : k .before .before .is-paired .result ≡ true = not-false _ (k .before .if1 .left) in
     let digits : value (put .last .0) ≡ (2 * l .inv .5 .0 + 1) * 2 ^ (l .i - 1) =
     ap value (put .ensures) ∙ value-put (l .l) (l .i - 1) true (omega arith) (l .inv .4) ∙ digit-one (value (l .l)) (l .inv .5 .0) (l .i) (omega arith) (l .inv .5 .1) in
     let bits : value (c .before .before .xor-assign .last .0) ≡ state (lo (rows s) (l .i - 1)) (value (l .s)) =
-    ap value (rw (c .before .before .before .row .ensures) at xor) ∙ moved (s .pre .0) (l .i - 1) (omega arith) (l .s) (l .inv .1) (λ k. c .before .before .before .before .before .before .before .before .before .before .before .before .before .before .before .before .before .before .before .before .before .shared-slice-known .given k .fits) (l .inv .3) in (
+    ap value (rw (c .before .before .before .row .ensures) at xor) ∙ moved (s .pre .0) (l .i - 1) (omega arith) (l .s) (l .inv .1) (λ j. t .before .before .before .before .before .before .shared-slice-known .given j .fits) (l .inv .3) in (
       omega arith,
       ap length xor ∙ length-along bitXor (l .s) _ ∙ l .inv .1,
       put .kept .0 ∙ l .inv .2,
-      λ k. c .slice-known4 .given k .fits,
-      λ k. c .before .before .before .before .before .slice-known3 .given k .fits,
+      λ j. c .slice-known4 .given j .fits,
+      λ j. c .before .before .before .before .before .slice-known3 .given j .fits,
       (
         2 * l .inv .5 .0 + 1,
         digits,
-        rw bits (sym (back-seen (rows s) (left s) (l .i) (l .inv .5 .0) (value (l .s)) (omega arith) (is-pair (c .before .before .before .before .before .before .before .before .before .before .before .before)) (sym (c .before .before .before .before .before .before .before .before .before .before .is-seen .ensures) ∙ c .before .before .before .before .before .before .before .before .before .if2 .taken)) ∙ l .inv .5 .2),
+        rw bits (sym (back-seen (rows s) (left s) (l .i) (l .inv .5 .0) (value (l .s)) (omega arith) (is-pair (k .before .before) ∙ pair) (sees k ∙ c .before .before .before .before .before .before .before .before .before .if2 .taken)) ∙ l .inv .5 .2),
       ),
     )
 
@@ -113,7 +135,11 @@ loop-less-2 c = search needs
 
 loop-again-2 : tie.Need-loop-again-2 Inv-loop μ-loop
 loop-again-2 c =
-    let l = c .before .before .before .before .before .before .loop in (
+    let k = c .before in
+    let t = turn (k .before .before) in
+    let s = begun t in
+    let l = t .loop in
+    let pair : k .before .before .is-paired .result ≡ true = not-false _ (k .before .if1 .left) in (
       omega arith,
       l .inv .1,
       l .inv .2,
@@ -122,7 +148,7 @@ loop-again-2 c =
       (
         2 * l .inv .5 .0,
         digit-none (value (l .l)) (l .inv .5 .0) (l .i) (omega arith) (l .inv .5 .1),
-        sym (back-unseen (rows (c .before .before .before .before .before .before .before .before .before .before .before .before .before)) (left (c .before .before .before .before .before .before .before .before .before .before .before .before .before)) (l .i) (l .inv .5 .0) (value (l .s)) (omega arith) (is-pair (c .before .before .before)) (sym (c .before .is-seen .ensures) ∙ c .if2 .left)) ∙ l .inv .5 .2,
+        sym (back-unseen (rows s) (left s) (l .i) (l .inv .5 .0) (value (l .s)) (omega arith) (is-pair (k .before .before) ∙ pair) (sees k ∙ c .if2 .left)) ∙ l .inv .5 .2,
       ),
     )
 
@@ -153,6 +179,8 @@ read-off-spec =
     μ-loop
     loop-holds
     sub-i
+    difference-requires
+    look-requires
     is-paired-requires
     same-length
     same-length-2

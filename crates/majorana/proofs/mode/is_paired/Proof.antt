@@ -1,7 +1,6 @@
 -- `mode::is_paired` meets its contract: the X parts word by word, and then the difference.
 use mathlib.Core.Path.{_≡_, sym, ap₂, _∙_}
-use mathlib.Core.Bool.{Bool, true, false}
-use Prim.Native.Nat.{ℕ, _+_, _*_}
+use Prim.Native.Nat.{_+_, _*_}
 use borrow.Author.Tests.{not-true, not-false}
 use Rattle.dense_block.specs.Words.{alike, termOf}
 use Rattle.majorana.proofs.ModeLaws.{x-lo, x-hi, unlike, paired-by}
