@@ -7,9 +7,9 @@
 #include <stdio.h>
 #include <stdlib.h>
 #include <time.h>
-#include "ropethistle.h"
+#include "rows.h"
 
-enum { MOST_MODES = 256, MOST_WORDS = MOST_MODES / 64, SAMPLES = 60 };
+enum { SAMPLES = 60 };
 
 struct library {
     RopethistleAnswer (*from_name)(size_t, size_t, size_t, uint64_t *, size_t, uint64_t *, size_t, uint8_t *, size_t, uint64_t *, size_t, uint64_t *, size_t);
@@ -21,14 +21,6 @@ struct library {
         uint64_t *, size_t);
     RopethistleAnswer (*new)(size_t, size_t, const uint64_t *, size_t, const uint64_t *, size_t, const uint8_t *, size_t, uint64_t *, size_t, uint64_t *, size_t);
 };
-
-static size_t n, w;
-static uint64_t x[2 * MOST_MODES * MOST_WORDS], z[2 * MOST_MODES * MOST_WORDS], room[4 * MOST_MODES * MOST_WORDS];
-static uint64_t vacuum[MOST_WORDS], list[MOST_WORDS], string[MOST_WORDS], out[MOST_WORDS];
-static uint8_t phases[2 * MOST_MODES];
-
-#define SET x, 2 * n * w, z, 2 * n * w, phases, 2 * n
-#define ROWS n, n, SET
 
 static size_t encode(const struct library *l) { return l->try_encode(ROWS, vacuum, w, list, w, string, w).number; }
 static size_t decode(const struct library *l) { return l->decode(ROWS, vacuum, w, string, w, out, w).number; }
@@ -82,10 +74,8 @@ int main(int argc, char **argv) {
         return 1;
     }
     const struct library both[2] = {load(argv[1]), load(argv[2])};
-    n = strtoul(argv[3], NULL, 10);
-    w = n / 64 + (n % 64 != 0);
-    done(both[0].from_name(0, n, n, SET, vacuum, w, room, 4 * n * w).number);
-    for (size_t i = 0; i < n; i++) list[i / 64] |= (uint64_t)1 << i % 64;
+    size(strtoul(argv[3], NULL, 10));
+    done(both[0].from_name(JORDAN_WIGNER, n, n, SET, vacuum, w, room, 4 * n * w).number);
     done(encode(&both[0]));
     for (size_t c = 0; c < sizeof CALLS / sizeof *CALLS; c++) {
         size_t calls = 1 + (size_t)(1e6 / sample(CALLS[c].call, &both[0], 2));

@@ -5,19 +5,10 @@
 #include <stdio.h>
 #include <stdlib.h>
 #include <string.h>
-#include "ropethistle.h"
+#include "rows.h"
 
-enum { MOST_MODES = 256, MOST_WORDS = MOST_MODES / 64, JORDAN_WIGNER = 0 };
-
-static size_t n, w;
-static uint64_t x[2 * MOST_MODES * MOST_WORDS], z[2 * MOST_MODES * MOST_WORDS], room[4 * MOST_MODES * MOST_WORDS];
-static uint64_t vacuum[MOST_WORDS], list[MOST_WORDS], string[MOST_WORDS], out[MOST_WORDS], out_z[MOST_WORDS];
-static uint8_t phases[2 * MOST_MODES];
+static uint64_t out_z[MOST_WORDS];
 static size_t numbers[4];
-
-/* slices are told as long as needed: n modes on n qubits, so that a list takes w words as a string does */
-#define SET x, 2 * n * w, z, 2 * n * w, phases, 2 * n
-#define ROWS n, n, SET
 
 static size_t encode(void) { return ropethistle_try_encode(ROWS, vacuum, w, list, w, string, w).number; }
 static size_t decode(void) { return ropethistle_decode_zbasis_state(ROWS, vacuum, w, string, w, out, w).number; }
@@ -53,12 +44,10 @@ int main(int argc, char **argv) {
     size_t call = 0, calls = sizeof CALLS / sizeof *CALLS;
     while (call < calls && strcmp(CALLS[call].name, argv[1]) != 0) call++;
     if (call == calls) stop("no such call", argv[1]);
-    n = read_number(argv[2]);
-    w = n / 64 + (n % 64 != 0);
+    size(read_number(argv[2]));
     size_t times = read_number(argv[3]);
 
     done(ropethistle_from_name(JORDAN_WIGNER, n, n, SET, vacuum, w, room, 4 * n * w).number, "from_name");
-    for (size_t i = 0; i < n; i++) list[i / 64] |= (uint64_t)1 << i % 64;
     numbers[1] = 1, numbers[2] = n, numbers[3] = 2 * n - 1;
     done(encode(), "encode");
 

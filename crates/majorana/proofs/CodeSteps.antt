@@ -16,6 +16,7 @@ use Rattle.algebra.proofs.Digits.{bit-lt}
 use Rattle.algebra.proofs.Dots.{ones-zero, ones-xor}
 use Rattle.algebra.proofs.Operators.{encode-refused}
 use Rattle.dense_block.specs.Words.{digit, putBit}
+use Rattle.pauli.proofs.Products.{digit-dot}
 use Rattle.majorana.specs.Runs.{readOff}
 
 -- ---- encoding
@@ -65,12 +66,7 @@ phase-next r s f g fold first e h =
     sums p a t e = omega arith
 
 pub counted : (f u : ℕ) → (f + 2 * digit (eqb (u % 2) 1)) % 4 ≡ (f + 2 * u) % 4
-counted f u = omega (arith, bool (u % 2) (omega arith))
-  where
-    bool : (k : ℕ) → k < 2 → digit (eqb k 1) ≡ k
-    bool zero h = refl
-    bool (suc zero) h = refl
-    bool (suc (suc k)) h = absurd (omega arith)
+counted f u = omega (arith, digit-dot (u % 2) (omega arith))
 
 -- ---- decoding
 

@@ -11,6 +11,7 @@ use lib.ListN.{length, getD, set, drop, drop-of-length-le}
 use lib.Seq.{getD-drop, drop-drop, drop-set-lt}
 use lib.Bits.{bitAnd, bitOr, bitXor, or-add-and, and-le-r, xor-self}
 use lib.Count.{ones}
+use Rattle.refusal.proofs.Bools.{and-true, not-not}
 use Rattle.algebra.specs.Rows.{dot}
 use Rattle.algebra.specs.Modes.{Modes, e, d, paired, empty}
 use Rattle.algebra.specs.Coding.{seen}
@@ -84,10 +85,6 @@ module _ {x0 x1 z0 z1 s : List ℕ} (l : Level x0 x1 z0 z1 s) (i apart first : �
     first = fold-done z0 s i first _ (omega (arith, l .z-lo)) (k .firsts);
     both = e;
   }
-    where
-      and-true : (b : Bool) → (b && true) ≡ b
-      and-true true = refl
-      and-true false = refl
 
 -- where the state is changed on the way, what is left of it is as it was
 
@@ -144,10 +141,6 @@ module _ {m : Modes} {i s : ℕ} {r : Walk} (t : Looked m i s r) where
       u : ℕ
       u = dot (e m i) s
 
-      twice : (b : Bool) → not (not b) ≡ b
-      twice true = refl
-      twice false = refl
-
       half : d m i % 2 ≡ 0 → ltb 1 (d m i) ≡ eqb (d m i) 2
       half h = over (d m i) (d-below m i) h
         where
@@ -159,4 +152,4 @@ module _ {m : Modes} {i s : ℕ} {r : Walk} (t : Looked m i s r) where
 
       go : (b : Bool) → paired m i ≡ b → (b && not (not (Bool·beq (eqb u 1) (ltb 1 (d m i))))) ≡ (b && eqb u (d m i / 2))
       go false h = refl
-      go true h = let p = paired-even m i h in twice _ ∙ ap (Bool·beq (eqb u 1)) (half p) ∙ parity-half u (d m i) (dot-lt (e m i) s) (d-below m i) p
+      go true h = let p = paired-even m i h in not-not _ ∙ ap (Bool·beq (eqb u 1)) (half p) ∙ parity-half u (d m i) (dot-lt (e m i) s) (d-below m i) p

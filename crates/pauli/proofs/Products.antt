@@ -58,7 +58,7 @@ sum-filled w xs ys os h k p q =
     filled-by (xors (take w xs) (take w ys)) os w (length-along bitXor (take w xs) (take w ys) ∙ e) (words-xors (take w xs) (take w ys) pa pb)
     ∙ ap (λ (v : ℕ). filled w v os) (value-xors (take w xs) (take w ys) (omega arith) pa pb)
 
-digit-dot : (d : ℕ) → d < 2 → digit (eqb d 1) ≡ d
+pub digit-dot : (d : ℕ) → d < 2 → digit (eqb d 1) ≡ d
 digit-dot zero h = refl
 digit-dot (suc zero) h = refl
 digit-dot (suc (suc d)) h = absurd (omega arith)

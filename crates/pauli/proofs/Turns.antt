@@ -7,13 +7,10 @@ use mathlib.Core.Path.{_≡_, refl, sym, ap, _∙_}
 use mathlib.Core.Bool.{Bool, true, false, not, _||_, Bool·beq}
 use borrow.Author.Tests.{eq-eqb}
 use lib.Ieee.{Float, nan, inf, fin, neg, lt, eq, level, up, down}
+use Rattle.refusal.proofs.Bools.{not-not}
 use Rattle.pauli.specs.declared.Coefficient.{Coefficient}
 use Rattle.pauli.specs.declared.Marked.the-variants.{Real}
 use Rattle.pauli.specs.Coefficients.{quarter, turned, marked, markedQuarter, stands, isFinite, plainZero, SameNumber}
-
-not-not : (b : Bool) → not (not b) ≡ b
-not-not true = refl
-not-not false = refl
 
 pub neg-neg : (x : Float) → neg (neg x) ≡ x
 unfolding neg

@@ -15,7 +15,7 @@ use lib.Ieee.{Float}
 use lib.ListN.{length, getD}
 use Rattle.refusal.specs.Numbers.{Paper, bare}
 use Rattle.refusal.specs.Table.{_gives_, firstOf, ifZero, onDone}
-use Rattle.refusal.proofs.Bools.{or-left, or-right}
+use Rattle.refusal.proofs.Bools.{or-left, or-right, and-true}
 use Rattle.algebra.specs.Rows.{OnColumns}
 use Rattle.algebra.specs.Modes.{Modes}
 use Rattle.algebra.proofs.RowLaws.{identity-on, times-on}
@@ -99,10 +99,6 @@ module _ (s : Set) (ks : List ℕ) (oxs ozs : List ℕ) where
     -- (x, 0) is finite exactly if x is
     same-refusal : realRefused s ks x oxs ozs ≡ complexRefused s ks (stands (Real x)) oxs ozs
     same-refusal = ap (λ (finite : Bool). productRefused s ks finite oxs ozs) (sym (and-true (isFinite x)))
-      where
-        and-true : (b : Bool) → (b && true) ≡ b
-        and-true true = refl
-        and-true false = refl
 
     -- turned by one power, or both zero
     same-coefficient : (k : ℕ) (p : Paper) → SameNumber (stands (onDone p (marked k x) (Real zeroFloat))) (onDone p (turned k (stands (Real x))) zeroCoefficient)

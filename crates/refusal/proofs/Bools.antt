@@ -1,8 +1,8 @@
--- What an answer of `&&`, `||` or `==` on Bools tells of its parts.
+-- What an answer of `&&`, `||` or `==` on Bools tells of its parts, and what falls away.
 use Prim.Native.Nat.{ℕ}
 use native.Mathlib.Omega.{arith}
 use mathlib.Core.Path.{_≡_, refl}
-use mathlib.Core.Bool.{Bool, true, false, _&&_, _||_, Bool·beq}
+use mathlib.Core.Bool.{Bool, true, false, not, _&&_, _||_, Bool·beq}
 
 pub or-left : (a b : Bool) → (a || b) ≡ false → a ≡ false
 or-left true b h = cc
@@ -16,6 +16,10 @@ pub or-false : (b : Bool) → (b || false) ≡ b
 or-false true = refl
 or-false false = refl
 
+pub and-true : (b : Bool) → (b && true) ≡ b
+and-true true = refl
+and-true false = refl
+
 pub and-left : (a b : Bool) → (a && b) ≡ true → a ≡ true
 and-left true b h = refl
 and-left false b h = h
@@ -26,6 +30,10 @@ and-right false b h = cc
 
 pub both : {a b : Bool} → a ≡ true → b ≡ true → (a && b) ≡ true
 both h k = rw (h, k)
+
+pub not-not : (b : Bool) → not (not b) ≡ b
+not-not true = refl
+not-not false = refl
 
 pub beq-same : (a b : Bool) → Bool·beq a b ≡ true → a ≡ b
 beq-same true true h = refl

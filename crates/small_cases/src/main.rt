@@ -247,28 +247,18 @@ fn product(a: usize, b: usize) {
     text(b"\n");
 }
 
-// Whether two rows have an odd number of common ones.
-fn common(case: &[u8], a: &[u64], b: &[u64]) {
+// Writes whether the number of common ones is odd.
+fn common(case: &[u8], odd: bool) {
     text(b"common ones of ");
     text(case);
-    if dense_block::parity_and(a, b) {
+    if odd {
         text(b": odd\n");
     } else {
         text(b": even\n");
     }
 }
 
-// Whether the common ones of a and b and those of c and d are odd in number together.
-fn common_two(case: &[u8], a: &[u64], b: &[u64], c: &[u64], d: &[u64]) {
-    text(b"common ones of ");
-    text(case);
-    if dense_block::parity(dense_block::fold_both(a, b, c, d)) {
-        text(b": odd\n");
-    } else {
-        text(b": even\n");
-    }
-}
-
+// Of two rows, and of two pairs together.
 fn parities() {
     let all = [0xffff_ffff_ffff_ffffu64; 4];
     let but_last = [
@@ -277,25 +267,25 @@ fn parities() {
         0xffff_ffff_ffff_ffff,
         0x7fff_ffff_ffff_ffff,
     ];
-    common(b"words 1 1 and 1 1", &[1u64, 1], &[1u64, 1]);
-    common(b"words 1 1 and 1 0", &[1u64, 1], &[1u64, 0]);
-    common(b"256 columns", &all, &all);
-    common(b"255 columns", &all, &but_last);
-    common(b"words 1 1 1 and 1", &[1u64, 1, 1], &[1u64]);
-    common(b"words 1 1 and 1 1 1", &[1u64, 1], &[1u64, 1, 1]);
-    common_two(
+    let a = [1u64, 1];
+    let b = [1u64, 0];
+    let c = [1u64, 1, 1];
+    let d = [1u64];
+    common(b"words 1 1 and 1 1", dense_block::parity_and(&a, &a));
+    common(b"words 1 1 and 1 0", dense_block::parity_and(&a, &b));
+    common(b"256 columns", dense_block::parity_and(&all, &all));
+    common(b"255 columns", dense_block::parity_and(&all, &but_last));
+    common(b"words 1 1 1 and 1", dense_block::parity_and(&c, &d));
+    common(b"words 1 1 and 1 1 1", dense_block::parity_and(&a, &c));
+    let alike = dense_block::fold_both(&a, &a, &a, &b);
+    common(
         b"words 1 1 and 1 1, 1 1 and 1 0",
-        &[1u64, 1],
-        &[1u64, 1],
-        &[1u64, 1],
-        &[1u64, 0],
+        dense_block::parity(alike),
     );
-    common_two(
+    let unlike = dense_block::fold_both(&a, &b, &d, &c);
+    common(
         b"words 1 1 and 1 0, 1 and 1 1 1",
-        &[1u64, 1],
-        &[1u64, 0],
-        &[1u64],
-        &[1u64, 1, 1],
+        dense_block::parity(unlike),
     );
 }
 
