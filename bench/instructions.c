@@ -1,7 +1,8 @@
 /* Makes one call of the library many times, for bench/count to count its instructions. Arguments: CALL MODES TIMES.
  *
- * CALL is encode (the list of all modes), decode (the string of that list), check, new, solve or product (of rows 0, 1, n and 2n - 1), on Jordan-Wigner's
- * rows. What the calls are given is made first whatever TIMES is, so that a run with TIMES 0 has the instructions that are not the calls'. */
+ * CALL is encode (the list of all modes), decode (the string of that list), check, new, solve, product (of rows 0, 1, n and 2n - 1) or multiply (rows 0 and
+ * 2n - 1), on Jordan-Wigner's rows. What the calls are given is made first whatever TIMES is, so that a run with TIMES 0 has the instructions that are not the
+ * calls'. */
 #include <stdio.h>
 #include <stdlib.h>
 #include <string.h>
@@ -17,8 +18,15 @@ static size_t new(void) { return ropethistle_new(ROWS, out, w, room, 4 * n * w).
 static size_t solve(void) { return ropethistle_determine_vacuum_state(ROWS, out, w, room, n * (w + 1)).number; }
 static size_t product(void) { return ropethistle_product(ROWS, numbers, 4, 0.5, 0.0, out, w, out_z, w).number; }
 
+/* rows 0 and 2n - 1, whose parts are lent as slices of the set's */
+static size_t multiply(void) {
+    size_t last = 2 * n - 1;
+    return ropethistle_multiply(n, phases[0], x, w, z, w, phases[last], x + last * w, w, z + last * w, w, out, w, out_z, w).number;
+}
+
 static const struct { const char *name; size_t (*make)(void); } CALLS[] = {
     {"encode", encode}, {"decode", decode}, {"check", check}, {"new", new}, {"solve", solve}, {"product", product},
+    {"multiply", multiply},
 };
 
 static void stop(const char *what, const char *which) {

@@ -47,6 +47,8 @@ extern "C" {
 typedef struct { size_t number, first, second; } RopethistleAnswer;
 /* phase: i to this power, 0 to 3 */
 typedef struct { size_t number, phase; } RopethistlePhase;
+/* commute: 1 if the two rows commute, 0 if they anticommute, and 0 in a refused answer */
+typedef struct { size_t number, phase, commute; } RopethistleMultiplied;
 typedef struct { size_t number, phase; double re, im; } RopethistleProduct;
 /* value is real if imaginary is 0, else (1) it is multiplied by i */
 typedef struct { size_t number, phase, imaginary; double value; } RopethistleRealProduct;
@@ -101,8 +103,10 @@ RopethistleRealProduct ropethistle_product_real(size_t modes, size_t qubits,
     const uint64_t *x, size_t x_len, const uint64_t *z, size_t z_len, const uint8_t *phases, size_t phases_len,
     const size_t *numbers, size_t numbers_len, double c, uint64_t *ox, size_t ox_len, uint64_t *oz, size_t oz_len);
 
-/* The product of the row i^left X^lx Z^lz and then the right one, on `columns` columns; each part takes ceil(columns / 64) words. 1, 2, 17. */
-RopethistlePhase ropethistle_multiply(size_t columns,
+/* The product of the row i^left X^lx Z^lz and then the right one, on `columns` columns; each part takes ceil(columns / 64) words. When done, `commute` is 1
+ * exactly if the common ones of lx and rz and those of lz and rx are together even in number; then the other order has the same phase, and else one that differs by 2.
+ * 1, 2, 17. */
+RopethistleMultiplied ropethistle_multiply(size_t columns,
     uint8_t left, const uint64_t *lx, size_t lx_len, const uint64_t *lz, size_t lz_len,
     uint8_t right, const uint64_t *rx, size_t rx_len, const uint64_t *rz, size_t rz_len,
     uint64_t *ox, size_t ox_len, uint64_t *oz, size_t oz_len);

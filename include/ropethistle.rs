@@ -17,6 +17,14 @@ pub struct Phase {
 }
 
 #[repr(C)]
+#[derive(Clone, Copy, Debug, PartialEq, Eq)]
+pub struct Multiplied {
+    pub number: usize,
+    pub phase: usize,
+    pub commute: usize,
+}
+
+#[repr(C)]
 #[derive(Clone, Copy, Debug, PartialEq)]
 pub struct Product {
     pub number: usize,
@@ -76,7 +84,7 @@ extern "C" {
     pub fn ropethistle_multiply(
         columns: usize, left: u8, lx: *const u64, lx_len: usize, lz: *const u64, lz_len: usize, right: u8, rx: *const u64, rx_len: usize,
         rz: *const u64, rz_len: usize, ox: *mut u64, ox_len: usize, oz: *mut u64, oz_len: usize,
-    ) -> Phase;
+    ) -> Multiplied;
     pub fn ropethistle_from_flatpack(
         modes: usize, qubits: usize, entries: *const usize, entries_len: usize, filled: *const u8, filled_len: usize, x: *mut u64, x_len: usize,
         z: *mut u64, z_len: usize, phases: *mut u8, phases_len: usize, vacuum: *mut u64, vacuum_len: usize, room: *mut u64, room_len: usize,

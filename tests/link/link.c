@@ -55,13 +55,54 @@ static void good(void) {
     TEST(r.number == 0 && r.phase == 1 && r.imaginary == 1 && r.value == 2.0);
     r = ropethistle_product_real(ROWS(0), flip, 2, 2.0, &ox, 1, &oz, 1);
     TEST(r.number == 0 && r.phase == 3 && r.imaginary == 1 && r.value == -2.0);
-    f = ropethistle_multiply(2, 0, &X[0], 1, &Z[0], 1, 1, &X[1], 1, &Z[1], 1, &ox, 1, &oz, 1);
-    TEST(f.number == 0 && f.phase == 1 && ox == 0 && oz == 1);
     uint64_t mx[4], mz[4];
     uint8_t mp[4];
     a = ropethistle_maxnto(2, mx, 4, mz, 4, mp, 4);
     TEST(a.number == 0 && mx[0] == 2 && mz[0] == 1 && mx[1] == 2 && mz[1] == 3 && mx[2] == 1 && mz[2] == 0 && mx[3] == 1 && mz[3] == 1);
     TEST(mp[0] == 0 && mp[1] == 1 && mp[2] == 0 && mp[3] == 1);
+}
+
+/* two rows multiplied on `columns` columns, each part read having as many words as needed, which end at such a page */
+static RopethistleMultiplied multiplied(size_t columns, uint8_t left, const uint64_t *lx, const uint64_t *lz, uint8_t right, const uint64_t *rx, const uint64_t *rz,
+    uint64_t *ox, uint64_t *oz) {
+    size_t w = (columns + 63) / 64;
+    return ropethistle_multiply(columns, left, copied(lx, w), w, copied(lz, w), w, right, copied(rx, w), w, copied(rz, w), w, ox, w, oz, w);
+}
+
+#define IS(m, a, b, c) ((m).number == (a) && (m).phase == (b) && (m).commute == (c))
+
+static void pairs(void) {
+    static const uint64_t none[4] = {0}, one[4] = {1}, two[4] = {2}, three[4] = {3}, last[4] = {0, 0, 0, 1ull << 63}, both[4] = {1, 0, 0, 1ull << 63};
+    uint64_t *ox = words(1, 5), *oz = words(1, 5), *wide_x = words(4, 5), *wide_z = words(4, 5);
+    /* refused: rows that commute, too, are said not to */
+    RopethistleMultiplied m = multiplied(2, 4, one, none, 0, one, none, ox, oz);
+    TEST(IS(m, 17, 0, 0) && *ox == 5 && *oz == 5);
+    /* XI with YI in both orders, with IX; YI with itself; XX with ZZ, whose letters anticommute in two columns */
+    m = multiplied(2, 0, one, none, 1, one, one, ox, oz);
+    TEST(IS(m, 0, 1, 0) && *ox == 0 && *oz == 1);
+    m = multiplied(2, 1, one, one, 0, one, none, ox, oz);
+    TEST(IS(m, 0, 3, 0) && *ox == 0 && *oz == 1);
+    m = multiplied(2, 0, one, none, 0, two, none, ox, oz);
+    TEST(IS(m, 0, 0, 1) && *ox == 3 && *oz == 0);
+    m = multiplied(2, 1, one, one, 1, one, one, ox, oz);
+    TEST(IS(m, 0, 0, 1) && *ox == 0 && *oz == 0);
+    m = multiplied(2, 0, three, none, 0, none, three, ox, oz);
+    TEST(IS(m, 0, 0, 1) && *ox == 3 && *oz == 3);
+    /* rows that differ in column 255 only, in both orders; a column too few for them, which leaves the parts; a row with itself; X with Z in columns 0 and 255 */
+    m = multiplied(256, 0, both, none, 0, one, last, wide_x, wide_z);
+    TEST(IS(m, 0, 0, 0) && !memcmp(wide_x, last, 32) && !memcmp(wide_z, last, 32));
+    m = multiplied(255, 0, both, none, 0, both, none, wide_x, wide_z);
+    TEST(IS(m, 17, 0, 0) && !memcmp(wide_x, last, 32) && !memcmp(wide_z, last, 32));
+    m = multiplied(256, 0, both, none, 0, both, none, wide_x, wide_z);
+    TEST(IS(m, 0, 0, 1) && !memcmp(wide_x, none, 32) && !memcmp(wide_z, none, 32));
+    m = multiplied(256, 0, one, last, 0, both, none, wide_x, wide_z);
+    TEST(IS(m, 0, 2, 0) && !memcmp(wide_x, last, 32) && !memcmp(wide_z, last, 32));
+    m = multiplied(256, 0, both, none, 0, none, both, wide_x, wide_z);
+    TEST(IS(m, 0, 0, 1) && !memcmp(wide_x, both, 32) && !memcmp(wide_z, both, 32));
+    m = ropethistle_multiply(2, 0, NULL, 0, NULL, 0, 0, NULL, 0, NULL, 0, NULL, 0, NULL, 0);
+    TEST(IS(m, 2, 0, 0));
+    m = ropethistle_multiply(0, 0, NULL, 0, NULL, 0, 0, NULL, 0, NULL, 0, NULL, 0, NULL, 0);
+    TEST(IS(m, 1, 0, 0));
 }
 
 /* trees: 01's example of two entries, the named trees, refusals that leave zeros and that leave all as it was */
@@ -158,8 +199,6 @@ static void lengths(void) {
     TEST(p.number == 0 && p.phase == 0 && p.re == 1.5 && p.im == -2.5 && ox == 0 && oz == 0);
     TEST(ropethistle_product(ROWS(0), NULL, 0, 1.0, 0.0, NULL, 0, &oz, 1).number == 2);
     TEST(ropethistle_product_real(ROWS(0), NULL, 0, 1.0, &ox, 1, NULL, 0).number == 2);
-    TEST(ropethistle_multiply(2, 0, NULL, 0, NULL, 0, 0, NULL, 0, NULL, 0, NULL, 0, NULL, 0).number == 2);
-    TEST(ropethistle_multiply(0, 0, NULL, 0, NULL, 0, 0, NULL, 0, NULL, 0, NULL, 0, NULL, 0).number == 1);
     TEST(ropethistle_maxnto(2, NULL, 0, NULL, 0, NULL, 0).number == 2);
 }
 
@@ -200,6 +239,7 @@ static void whole_chain(void) {
 int main(void) {
     X = copied(XS, 4), Z = copied(ZS, 4), P = memcpy(lent(4), PS, 4);
     good();
+    pairs();
     trees();
     solving();
     refused();

@@ -68,6 +68,17 @@ fn multiply(numbers: &[usize], c: f64) -> (RealProduct, Product, u64, u64) {
     (r, p, ox[0], oz[0])
 }
 
+// Two rows of two columns, each with its phase, X part and Z part, and what is left in the product's parts
+fn pair(left: (u8, u64, u64), right: (u8, u64, u64)) -> (Multiplied, u64, u64) {
+    let (lx, lz, rx, rz, ox, oz) = (lent(&[left.1]), lent(&[left.2]), lent(&[right.1]), lent(&[right.2]), lent(&[5]), lent(&[5]));
+    let m = unsafe {
+        ropethistle_multiply(
+            2, left.0, lx.as_ptr(), 1, lz.as_ptr(), 1, right.0, rx.as_ptr(), 1, rz.as_ptr(), 1, ox.as_mut_ptr(), 1, oz.as_mut_ptr(), 1,
+        )
+    };
+    (m, ox[0], oz[0])
+}
+
 fn main() {
     let done = Answer { number: 0, first: 0, second: 0 };
     let mut room = lent(&[7; 9]);
@@ -89,6 +100,15 @@ fn main() {
     assert_eq!(multiply(&[0; 512], 2.0), (
         RealProduct { number: 0, phase: 0, imaginary: 0, value: 2.0 }, Product { number: 0, phase: 0, re: 2.0, im: 0.0 }, 0, 0,
     ));
+
+    // XI with YI, in both orders; with IX; YI with itself; XX with ZZ; and XI of phase 4 with XI
+    let told = |phase, commute| Multiplied { number: 0, phase, commute };
+    assert_eq!(pair((0, 1, 0), (1, 1, 1)), (told(1, 0), 0, 1));
+    assert_eq!(pair((1, 1, 1), (0, 1, 0)), (told(3, 0), 0, 1));
+    assert_eq!(pair((0, 1, 0), (0, 2, 0)), (told(0, 1), 3, 0));
+    assert_eq!(pair((1, 1, 1), (1, 1, 1)), (told(0, 1), 0, 0));
+    assert_eq!(pair((0, 3, 0), (0, 0, 3)), (told(0, 1), 3, 3));
+    assert_eq!(pair((4, 1, 0), (0, 1, 0)), (Multiplied { number: 17, phase: 0, commute: 0 }, 5, 5));
 
     // a named tree, and a number that names none
     let (x, z, v, room) = (lent(&[7; 4]), lent(&[7; 4]), lent(&[7]), lent(&[7; 8]));
@@ -136,7 +156,7 @@ fn main() {
     let a = unsafe { ropethistle_check_vacuum(0, 2, null(), 0, null(), 0, null(), 0, null(), 0) };
     assert_eq!(a.number, 1);
     let p = unsafe { ropethistle_multiply(1, 0, null(), 0, null(), 0, 0, null(), 0, null(), 0, null_mut(), 0, null_mut(), 0) };
-    assert_eq!(p, Phase { number: 2, phase: 0 });
+    assert_eq!(p, Multiplied { number: 2, phase: 0, commute: 0 });
     let a = unsafe { ropethistle_maxnto(2, null_mut(), 0, null_mut(), 0, null_mut(), 0) };
     assert_eq!(a.number, 2);
     println!("link.rs: all tests passed");

@@ -6,6 +6,7 @@ use lib.Ieee.{Float}
 use Rattle.refusal.specs.Numbers.{bare, paper, answered}
 use Rattle.refusal.specs.declared.Answer.{Answer}
 use Rattle.refusal.specs.declared.Refusal.{Refusal}
+use Rattle.dense_block.specs.Words.{digit}
 use Rattle.pauli.specs.declared.Marked.{Marked}
 use Rattle.pauli.specs.declared.Marked.the-variants.{Real, Imag}
 use Rattle.pauli.specs.declared.Product.{Product}
@@ -20,6 +21,7 @@ use Rattle.trees.specs.declared.Named.the-variants.{JordanWigner, Parity, Bravy
 use Rattle.ternarytree.specs.Building.{NamedBuilt, asked}
 use Rattle.exports.specs.declared.told.RopethistleAnswer.{RopethistleAnswer}
 use Rattle.exports.specs.declared.told.RopethistlePhase.{RopethistlePhase}
+use Rattle.exports.specs.declared.told.RopethistleMultiplied.{RopethistleMultiplied}
 use Rattle.exports.specs.declared.told.RopethistleProduct.{RopethistleProduct}
 use Rattle.exports.specs.declared.told.RopethistleRealProduct.{RopethistleRealProduct}
 
@@ -44,8 +46,9 @@ answerTold a = record { number = answered a .number; first = answered a .first; 
 abbrev pub encodedTold : Encoded → RopethistlePhase
 encodedTold e = record { number = encodedPaper e .told .number; phase = encodedPaper e .phase }
 
-abbrev pub productTold : Product → RopethistlePhase
-productTold p = record { number = productPaper p .told .number; phase = productPaper p .phase }
+-- 1 if the two rows commute, and 0 if they do not or the product is refused
+abbrev pub productTold : Product → RopethistleMultiplied
+productTold p = record { number = productPaper p .told .number; phase = productPaper p .phase; commute = digit (productPaper p .commute) }
 
 abbrev pub multipliedTold : Multiplied → RopethistleProduct
 multipliedTold m = record { number = multipliedPaper m .told .number; phase = multipliedPaper m .phase; re = multipliedPaper m .coefficient .re; im = multipliedPaper m .coefficient .im }

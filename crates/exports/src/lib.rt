@@ -11,6 +11,7 @@ use pauli::Phase;
 use refusal::Answer;
 use refusal::Refusal;
 use told::RopethistleAnswer;
+use told::RopethistleMultiplied;
 use told::RopethistlePhase;
 use told::RopethistleProduct;
 use told::RopethistleRealProduct;
@@ -210,7 +211,7 @@ pub extern "C" fn ropethistle_multiply(
     rz: &[u64],
     ox: &mut [u64],
     oz: &mut [u64],
-) -> RopethistlePhase
+) -> RopethistleMultiplied
     ensures { λ r. ⌜ Tells productTold (λ a. pauli.Multiplied (pauli.given columns left (now (lx .entry)) (now (lz .entry)) right (now (rx .entry)) (now (rz .entry)) (now (ox .entry)) (now (oz .entry))) a (now (ox .exit)) (now (oz .exit))) r ⌝ }
 {
     let l = Phase { power: left };

@@ -10,6 +10,7 @@ use refusal::Refusal;
 use trees::Named;
 ghost use mathlib.Core.Path.{_≡_};
 ghost use Prim.Native.Nat.{_≤_};
+ghost use Rattle.dense_block.specs.Words.{digit};
 ghost use Rattle.exports.specs.Behind.{refusalTold, answerTold, encodedTold, productTold, multipliedTold, realTold, mark, value, namedBy};
 
 // The number of an answer, and the pair of 10; 0 and 0 in every other answer.
@@ -20,11 +21,19 @@ pub struct RopethistleAnswer {
     pub second: usize,
 }
 
-// The number of an answer, and the phase of a state or of a product; 0 unless it is done.
+// The number of an answer, and the phase of a state; 0 unless it is done.
 #[repr(C)]
 pub struct RopethistlePhase {
     pub number: usize,
     pub phase: usize,
+}
+
+// The number of an answer, the phase of the product of two rows, and whether the rows commute (1 or 0); 0 and 0 unless it is done.
+#[repr(C)]
+pub struct RopethistleMultiplied {
+    pub number: usize,
+    pub phase: usize,
+    pub commute: usize,
 }
 
 // The number of an answer, the phase of a product, and its coefficient; 0, 0 and 0 unless it is done.
@@ -49,6 +58,13 @@ fn wide(k: u8) -> usize
     ensures { λ r. ⌜ r ≡ k ⌝ }
 {
     k as usize
+}
+
+// 1 for yes, 0 for no.
+fn yes(b: bool) -> usize
+    ensures { λ r. ⌜ r ≡ digit b ⌝ }
+{
+    b as usize
 }
 
 // A refusal in numbers.
@@ -98,21 +114,25 @@ pub fn encoded(e: Encoded) -> RopethistlePhase
     }
 }
 
-pub fn product(p: Product) -> RopethistlePhase
+// The answer of pauli::multiply.
+pub fn product(p: Product) -> RopethistleMultiplied
     ensures { λ r. ⌜ r ≡ productTold p ⌝ }
 {
     match p {
-        Product::Done(f) => RopethistlePhase {
+        Product::Done(f, c) => RopethistleMultiplied {
             number: 0,
             phase: wide(f.power),
+            commute: yes(c),
         },
-        Product::Refused(why) => RopethistlePhase {
+        Product::Refused(why) => RopethistleMultiplied {
             number: wide(why.number()),
             phase: 0,
+            commute: 0,
         },
     }
 }
 
+// That of products::product.
 pub fn multiplied(m: Multiplied) -> RopethistleProduct
     ensures { λ r. ⌜ r ≡ multipliedTold m ⌝ }
 {

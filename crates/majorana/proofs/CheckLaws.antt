@@ -1,34 +1,19 @@
 -- The search for two rows that commute, as nested loops make it: what was passed does not commute.
-use Prim.Native.Nat.{ℕ, zero, suc, _+_, _-_, _*_, _%_, _^_, _≤_, _<_}
+use Prim.Native.Nat.{ℕ, _+_, _-_, _*_, _^_, _≤_, _<_}
 use native.Mathlib.Decide.{decLt}
 use native.Mathlib.Omega.{arith}
-use mathlib.Core.Path.{_≡_, refl, sym, ap, ap₂, _∙_}
+use mathlib.Core.Path.{_≡_, sym, ap, ap₂, _∙_}
 use mathlib.Core.List.{List, [], _++_, append-nil}
-use mathlib.Core.Bool.{Bool, false, not}
-use lib.Dec.{eqb}
+use mathlib.Core.Bool.{Bool, false}
 use lib.ListN.{length, take, drop, length-append, length-drop, drop-of-length-le}
 use lib.Seq.{length-take-le, take-at, drop-at}
-use Rattle.algebra.specs.Rows.{dot, clash}
-use Rattle.algebra.proofs.RowLaws.{clash-dot}
 use Rattle.dense_block.specs.Words.{value, termOf, withTerm, copied}
 use Rattle.dense_block.proofs.Values.{Words, value-below}
 use Rattle.dense_block.proofs.Alongs.{copied-whole}
 use Rattle.dense_block.proofs.Terms.{row-within, words-term, length-term, length-with, term-same, term-before, behind-with}
 use Rattle.elimination.specs.Rooms.{rowAt as eliminated}
 use Rattle.elimination.proofs.Vacuums.{row-parts}
-use Rattle.majorana.specs.Sets.{rowAt}
 use Rattle.majorana.specs.Rooms.{Loaded}
-
--- a parity that is not odd is even
-even : (a : ℕ) → a < 2 → not (eqb a 1) ≡ eqb a 0
-even zero h = refl
-even (suc zero) h = refl
-even (suc (suc a)) h = absurd (omega arith)
-
-pub commute-by : (w : ℕ) (xs zs ps : List ℕ) (j k u : ℕ)
-    → u ≡ (dot (value (termOf w xs j)) (value (termOf w zs k)) + dot (value (termOf w zs j)) (value (termOf w xs k))) % 2
-    → not (eqb u 1) ≡ eqb (clash (rowAt w xs zs ps j) (rowAt w xs zs ps k)) 0
-commute-by w xs zs ps j k u e = even u (omega arith) ∙ ap (λ (u : ℕ). eqb u 0) (e ∙ sym (clash-dot (rowAt w xs zs ps j) (rowAt w xs zs ps k)))
 
 -- ---- what was passed
 

@@ -3,6 +3,7 @@
 use crate::mode;
 use crate::rows;
 use crate::rows::row;
+use pauli::Phase;
 use refusal::Answer;
 use refusal::Refusal;
 ghost use mathlib.Core.Path.{_≡_};
@@ -26,17 +27,14 @@ pub enum Found {
     Nothing,
 }
 
-// Whether rows j and k commute. The X part of each with the Z part of the other: both are folded into one word, and its ones counted once.
+// Whether rows j and k commute.
 fn commute(modes: usize, w: usize, x: &[u64], z: &[u64], phases: &[u8], j: usize, k: usize) -> bool
     requires { ⌜ Fits modes w (now x) (now z) (now phases) × (j < 2 * modes) × (k < 2 * modes) ⌝ }
     ensures { λ r. ⌜ r ≡ eqb (clash (rowAt w (now (x .entry)) (now (z .entry)) (now (phases .entry)) j) (rowAt w (now (x .entry)) (now (z .entry)) (now (phases .entry)) k)) 0 ⌝ }
 {
-    !dense_block::parity(dense_block::fold_both(
-        row(w, j, x),
-        row(w, k, z),
-        row(w, j, z),
-        row(w, k, x),
-    ))
+    let a = Phase { power: phases[j] };
+    let b = Phase { power: phases[k] };
+    pauli::meet(a, row(w, j, x), row(w, j, z), b, row(w, k, x), row(w, k, z)).commute
 }
 
 // The first two rows that commute, in row order.

@@ -1,25 +1,26 @@
 -- What `multiply` leaves stands for the product: the first words of its parts, with the phase in the answer, are the product's row, of which no bit is cut off, and
--- they have no stray bit. Rows that pass 17 are rows on q columns, the product of two such rows is one, and q columns fit their words.
-use Prim.Native.Nat.{ℕ, _^_, _<_}
+-- they have no stray bit. Rows that pass 17 are rows on q columns, the product of two such rows is one, and q columns fit their words. Done in both orders, it says the
+-- same of whether the rows commute, and that equals comparing the two phases, which else differ by 2.
+use Prim.Native.Nat.{ℕ, zero, suc, _+_, _*_, _%_, _<_}
 use native.Mathlib.Omega.{arith}
-use mathlib.Core.Path.{_≡_, refl, sym, ap, _∙_}
+use mathlib.Core.Path.{_≡_, refl, sym, ap, ap₂, _∙_}
 use mathlib.Core.List.{List, [], _∷_}
-use mathlib.Core.Bool.{Bool, true, false, _||_}
+use mathlib.Core.Bool.{Bool, true, false, not, _||_}
 use borrow.Author.Tests.{ltb-false, le-ltb}
-use lib.Dec.{ltb}
+use lib.Dec.{eqb, ltb}
 use lib.ListN.{take}
 use Rattle.refusal.specs.Numbers.{Paper, bare}
 use Rattle.refusal.specs.Table.{_gives_, firstOf, onDone}
 use Rattle.refusal.proofs.Bools.{or-left, or-right}
-use Rattle.algebra.specs.Rows.{Row, OnColumns}
-use Rattle.algebra.proofs.RowLaws.{times-on}
-use Rattle.dense_block.specs.Words.{value, wordsFor, filled, strays}
+use Rattle.algebra.specs.Rows.{Row, OnColumns, clash}
+use Rattle.algebra.proofs.RowLaws.{times-on, clash-lt, clash-comm, orders}
+use Rattle.dense_block.specs.Words.{value, wordsFor, filled, digit, strays}
 use Rattle.dense_block.proofs.Values.{written-back}
 use Rattle.dense_block.proofs.Strays.{below-of, no-strays}
 use Rattle.pauli.specs.declared.Phase.{Phase}
 use Rattle.pauli.specs.declared.Product.the-variants.{Done}
-use Rattle.pauli.specs.Product.{LentRow, Input, trimmed, rowOf, product, badColumns, badRow, tooShort, refused, Told, multiplied, productX, productZ, Multiplied, Whole}
-use Rattle.pauli.proofs.Products.{valueTest}
+use Rattle.pauli.specs.Product.{LentRow, Input, trimmed, rowOf, leftRow, rightRow, product, commuting, badColumns, badRow, tooShort, refused, Told, multiplied, productX, productZ, Multiplied, Whole}
+use Rattle.pauli.proofs.Products.{valueTest, commute-orders}
 
 -- ---- rows and words
 
@@ -55,7 +56,7 @@ written-whole q r p xs zs oxs ozs on e f g = record { on-columns = on; stands = 
 
 -- ---- the call
 
-module _ (i : Input) (f : Phase) (xs zs : List ℕ) (m : Multiplied i (Done f) xs zs) where
+module _ (i : Input) (f : Phase) (c : Bool) (xs zs : List ℕ) (m : Multiplied i (Done f c) xs zs) where
   none-refused : refused i ≡ bare 0
   unfolding multiplied
   none-refused = sym (ap (λ (t : Told). t .told) (m .answer))
@@ -76,11 +77,42 @@ module _ (i : Input) (f : Phase) (xs zs : List ℕ) (m : Multiplied i (Done f) x
       let r = trimmed (i .q) (i .right) in
       times-on (i .q) (rowOf l) (rowOf r) (good-on (i .q) l (or-left (badRow (i .q) l) (badRow (i .q) r) rows-good)) (good-on (i .q) r (or-right (badRow (i .q) l) (badRow (i .q) r) rows-good))
 
+  -- the phase, and whether the rows commute
+  said : (f .power ≡ product i .p) × (c ≡ commuting (leftRow i) (rightRow i))
+  unfolding multiplied
+  said = (
+    ap (λ (t : Told). t .phase) (m .answer) ∙ ap (λ (p : Paper). onDone p (product i .p) 0) none-refused,
+    ap (λ (t : Told). t .commute) (m .answer) ∙ ap (λ (p : Paper). onDone p (commuting (leftRow i) (rightRow i)) false) none-refused,
+  )
+
   pub multiply-whole : Whole (i .q) (product i) (record { p = f .power; xs = xs; zs = zs })
-  unfolding multiplied productX productZ
+  unfolding productX productZ
   multiply-whole =
       let done = none-refused in
       written-whole (i .q) (product i) (f .power) xs zs (i .out-xs) (i .out-zs) product-on
-      (ap (λ (t : Told). t .phase) (m .answer) ∙ ap (λ (p : Paper). onDone p (product i .p) 0) done)
+      (said .0)
       (m .x-part ∙ ap (λ (p : Paper). onDone p (filled (wordsFor (i .q)) (product i .x) (i .out-xs)) (i .out-xs)) done)
       (m .z-part ∙ ap (λ (p : Paper). onDone p (filled (wordsFor (i .q)) (product i .z) (i .out-zs)) (i .out-zs)) done)
+
+-- ---- the call in both orders
+
+-- a clash, from whether two rows commute
+clash-from : (k : ℕ) → k < 2 → digit (not (eqb k 0)) ≡ k
+clash-from zero h = refl
+clash-from (suc zero) h = refl
+clash-from (suc (suc k)) h = absurd (omega arith)
+
+-- both answers say the same of whether the rows commute: it equals comparing the two phases, which else differ by 2
+pub multiply-orders : (q : ℕ) (l r : LentRow) (oxs ozs oxs' ozs' : List ℕ) (f g : Phase) (c d : Bool) (xs zs xs' zs' : List ℕ)
+    → Multiplied (record { q = q; left = l; right = r; out-xs = oxs; out-zs = ozs }) (Done f c) xs zs
+    → Multiplied (record { q = q; left = r; right = l; out-xs = oxs'; out-zs = ozs' }) (Done g d) xs' zs'
+    → (c ≡ d) × (c ≡ eqb (f .power) (g .power)) × (f .power ≡ (g .power + 2 * digit (not c)) % 4)
+multiply-orders q l r oxs ozs oxs' ozs' f g c d xs zs xs' zs' m n =
+    let a = rowOf (trimmed q l) in
+    let b = rowOf (trimmed q r) in
+    let there = said (record { q = q; left = l; right = r; out-xs = oxs; out-zs = ozs }) f c xs zs m in
+    let back = said (record { q = q; left = r; right = l; out-xs = oxs'; out-zs = ozs' }) g d xs' zs' n in (
+      there .1 ∙ ap (λ (k : ℕ). eqb k 0) (clash-comm a b) ∙ sym (back .1),
+      there .1 ∙ commute-orders a b ∙ ap₂ eqb (sym (there .0)) (sym (back .0)),
+      omega (arith, there .0, back .0, orders a b, ap (λ (t : Bool). digit (not t)) (there .1) ∙ clash-from (clash a b) (clash-lt a b)),
+    )

@@ -1,4 +1,5 @@
--- What `multiply` answers and leaves: the product of two rows on q columns, or the first refusal.
+-- What `meet` says of two rows: the phase of their product, and whether they commute. What `multiply` answers and leaves: the product of two rows on q columns with the same
+-- yes or no, or the first refusal.
 use Prim.Native.Nat.{ℕ}
 use mathlib.Core.Path.{_≡_}
 use mathlib.Core.List.{List, [], _∷_}
@@ -7,8 +8,9 @@ use lib.Dec.{eqb, ltb}
 use lib.ListN.{length, take}
 use Rattle.refusal.specs.Numbers.{Paper, bare, paper}
 use Rattle.refusal.specs.Table.{_gives_, firstOf, _of_, short, onDone}
-use Rattle.algebra.specs.Rows.{Row, OnColumns, times}
+use Rattle.algebra.specs.Rows.{Row, OnColumns, times, clash}
 use Rattle.dense_block.specs.Words.{value, wordsFor, filled, strays}
+use Rattle.pauli.specs.declared.Meeting.{Meeting}
 use Rattle.pauli.specs.declared.Product.{Product}
 use Rattle.pauli.specs.declared.Product.the-variants.{Done, Refused}
 
@@ -17,6 +19,9 @@ pub record LentRow : Type 0 where
   pub p : ℕ
   pub xs : List ℕ
   pub zs : List ℕ
+
+abbrev pub lentRow : ℕ → List ℕ → List ℕ → LentRow
+lentRow p xs zs = record { p = p; xs = xs; zs = zs }
 
 -- what is lent: columns, two rows, and room for the X and Z parts of the product
 pub record Input : Type 0 where
@@ -27,17 +32,36 @@ pub record Input : Type 0 where
   pub out-zs : List ℕ
 
 abbrev pub given : ℕ → ℕ → List ℕ → List ℕ → ℕ → List ℕ → List ℕ → List ℕ → List ℕ → Input
-given q p xs zs p' xs' zs' oxs ozs = record { q = q; left = record { p = p; xs = xs; zs = zs }; right = record { p = p'; xs = xs'; zs = zs' }; out-xs = oxs; out-zs = ozs }
+given q p xs zs p' xs' zs' oxs ozs = record { q = q; left = lentRow p xs zs; right = lentRow p' xs' zs'; out-xs = oxs; out-zs = ozs }
 
--- of each part the words that q columns take
+-- the first w words of each part
+abbrev pub firstWords : ℕ → LentRow → LentRow
+firstWords w r = lentRow (r .p) (take w (r .xs)) (take w (r .zs))
+
+-- the words that q columns take
 abbrev pub trimmed : ℕ → LentRow → LentRow
-trimmed q r = record { p = r .p; xs = take (wordsFor q) (r .xs); zs = take (wordsFor q) (r .zs) }
+trimmed q r = firstWords (wordsFor q) r
 
 abbrev pub rowOf : LentRow → Row
 rowOf r = record { p = r .p; x = value (r .xs); z = value (r .zs) }
 
+abbrev pub leftRow : Input → Row
+leftRow i = rowOf (trimmed (i .q) (i .left))
+
+abbrev pub rightRow : Input → Row
+rightRow i = rowOf (trimmed (i .q) (i .right))
+
 abbrev pub product : Input → Row
-product i = times (rowOf (trimmed (i .q) (i .left))) (rowOf (trimmed (i .q) (i .right)))
+product i = times (leftRow i) (rightRow i)
+
+-- two rows commute: x·z' + z·x' is even
+abbrev pub commuting : Row → Row → Bool
+commuting r s = eqb (clash r s) 0
+
+-- what `meet` says, whatever the rows' words are
+pub record Meets (left right : LentRow) (r : Meeting) : Type 0 where
+  pub phase : r .phase .power ≡ times (rowOf left) (rowOf right) .p
+  pub commute : r .commute ≡ commuting (rowOf left) (rowOf right)
 
 -- ---- refusals
 
@@ -67,17 +91,22 @@ refused i =
 
 -- ---- the answer
 
--- a number, its pair, and the phase of the product; other numbers in a refused answer are 0
+-- a number, its pair, the phase of the product, and whether the two rows commute. Other numbers in a refused answer are 0, and it says no
 pub record Told : Type 0 where
   pub told : Paper
   pub phase : ℕ
+  pub commute : Bool
 
 abbrev pub productPaper : Product → Told
-productPaper (Done f) = record { told = bare 0; phase = f .power }
-productPaper (Refused r) = record { told = paper r; phase = 0 }
+productPaper (Done f c) = record { told = bare 0; phase = f .power; commute = c }
+productPaper (Refused r) = record { told = paper r; phase = 0; commute = false }
 
 unfoldable pub multiplied : Input → Told
-multiplied i = record { told = refused i; phase = onDone (refused i) (product i .p) 0 }
+multiplied i = record {
+  told = refused i;
+  phase = onDone (refused i) (product i .p) 0;
+  commute = onDone (refused i) (commuting (leftRow i) (rightRow i)) false;
+}
 
 unfoldable pub productX : Input → List ℕ
 productX i = onDone (refused i) (filled (wordsFor (i .q)) (product i .x) (i .out-xs)) (i .out-xs)

@@ -4,20 +4,20 @@
 //   Coefficient     two f64 parts: turn by a power of i, is_finite
 //   Marked          a real or an imaginary number: what a power of i makes of a real one
 //   letter_power    the letter power of a row
+//   meet            the phase of the product of two rows, and whether they commute
 //   multiply        the product of two rows
 use refusal::Refusal;
 ghost use mathlib.Core.Path.{_≡_};
-ghost use mathlib.Core.Bool.{_&&_};
-ghost use Prim.Native.Nat.{_+_, _*_, _%_, _≤_, _<_};
+ghost use mathlib.Core.Bool.{_&&_, _||_};
+ghost use Prim.Native.Nat.{_+_, _*_, _%_, _<_};
 ghost use mathlib.Core.List.{[], _∷_};
 ghost use Rattle.refusal.specs.Table.{_of_, short};
 ghost use lib.IntN.{pos, _-ℤ_};
 ghost use lib.Signed.{mag, remZ};
-ghost use Rattle.dense_block.specs.Words.{digit};
 ghost use Rattle.pauli.specs.Coefficients.{turned, marked, isFinite};
-ghost use lib.ListN.{length, take};
-ghost use Rattle.dense_block.specs.Words.{odd, value, xors};
-ghost use Rattle.pauli.specs.Product.{given, badColumns, badRow, Multiplied};
+ghost use lib.ListN.{length};
+ghost use Rattle.dense_block.specs.Words.{digit, value, xors};
+ghost use Rattle.pauli.specs.Product.{lentRow, given, badColumns, badRow, Meets, Multiplied};
 ghost use Rattle.pauli.specs.Phases.{modFour, letterPower, rowPower};
 
 // i to a power. The methods count powers modulo 4; a row's phase above 3 is refused by the calls that take rows.
@@ -162,9 +162,28 @@ impl Marked {
     }
 }
 
-// The phase of the product, or why there is none.
+// The phase of the product of two rows, and whether they commute.
+pub struct Meeting {
+    pub phase: Phase,
+    pub commute: bool,
+}
+
+// The phase of the product of the left row, i^left X^lx Z^lz, and then the right one, and whether the two commute. Its sign is the parity of lz·rx; they commute if
+// lx·rz + lz·rx is even, both folded into one word and counted once. A caller that takes one of the two pays for that one, where this is inlined.
+pub fn meet(left: Phase, lx: &[u64], lz: &[u64], right: Phase, rx: &[u64], rz: &[u64]) -> Meeting
+    ensures { λ r. ⌜ Meets (lentRow (left .power) (now (lx .entry)) (now (lz .entry))) (lentRow (right .power) (now (rx .entry)) (now (rz .entry))) r ⌝ }
+{
+    let sign = dense_block::parity_and(lz, rx);
+    let clash = dense_block::parity(dense_block::fold_both(lx, rz, lz, rx));
+    Meeting {
+        phase: left.add(right).double_parity(sign),
+        commute: !clash,
+    }
+}
+
+// The phase of the product and whether the two rows commute, or why there is no product.
 pub enum Product {
-    Done(Phase),
+    Done(Phase, bool),
     Refused(Refusal),
 }
 
@@ -180,7 +199,7 @@ fn bad_columns(columns: usize) -> bool
 
 // Whether a row's phase is above 3, or one of its parts has a bit past the last column.
 fn bad_row(columns: usize, p: Phase, x: &[u64], z: &[u64]) -> bool
-    ensures { λ r. ⌜ r ≡ badRow columns (record { p = p .power; xs = now (x .entry); zs = now (z .entry) }) ⌝ }
+    ensures { λ r. ⌜ r ≡ badRow columns (lentRow (p .power) (now (x .entry)) (now (z .entry))) ⌝ }
 {
     if 3 < p.power {
         return true;
@@ -189,6 +208,24 @@ fn bad_row(columns: usize, p: Phase, x: &[u64], z: &[u64]) -> bool
         return true;
     }
     dense_block::stray(z, columns)
+}
+
+// Whether one of two rows is bad.
+fn bad_factor(
+    columns: usize,
+    left: Phase,
+    lx: &[u64],
+    lz: &[u64],
+    right: Phase,
+    rx: &[u64],
+    rz: &[u64],
+) -> bool
+    ensures { λ r. ⌜ r ≡ (badRow columns (lentRow (left .power) (now (lx .entry)) (now (lz .entry))) || badRow columns (lentRow (right .power) (now (rx .entry)) (now (rz .entry)))) ⌝ }
+{
+    if bad_row(columns, left, lx, lz) {
+        return true;
+    }
+    bad_row(columns, right, rx, rz)
 }
 
 // Whether one of six lengths is below what is needed of each.
@@ -232,20 +269,19 @@ fn multiply_words(
     rz: &[u64],
     ox: &mut [u64],
     oz: &mut [u64],
-) -> Phase
+) -> Meeting
     requires { ⌜ (length (now lx) ≡ length (now ox)) × (length (now lz) ≡ length (now oz)) ⌝ }
-    ensures phase { λ r. ⌜ r .power ≡ (left .power + right .power + 2 * digit (odd (now (lz .entry)) (now (rx .entry)))) % 4 ⌝ }
+    ensures met { λ r. ⌜ Meets (lentRow (left .power) (now (lx .entry)) (now (lz .entry))) (lentRow (right .power) (now (rx .entry)) (now (rz .entry))) r ⌝ }
     ensures x_part { λ _. ⌜ now (ox .exit) ≡ xors (now (lx .entry)) (now (rx .entry)) ⌝ }
     ensures z_part { λ _. ⌜ now (oz .exit) ≡ xors (now (lz .entry)) (now (rz .entry)) ⌝ }
 {
     sum_into(ox, lx, rx);
     sum_into(oz, lz, rz);
-    let odd = dense_block::parity_and(lz, rx);
-    left.add(right).double_parity(odd)
+    meet(left, lx, lz, right, rx, rz)
 }
 
-// The product of the left row, i^left X^lx Z^lz, and then the right one, on `columns` columns. Done: its phase is in the answer, its X and Z parts are in the
-// first ceil(columns / 64) words of ox and oz, and the words past them stay. Refused: ox and oz are as they were.
+// The product of the left row, i^left X^lx Z^lz, and then the right one, on `columns` columns. Done: its phase is in the answer, with whether the two rows commute, its
+// X and Z parts are in the first ceil(columns / 64) words of ox and oz, and the words past them stay. Refused: ox and oz are as they were.
 pub fn multiply(
     columns: usize,
     left: Phase,
@@ -278,11 +314,10 @@ pub fn multiply(
     let lz = &lz[..w];
     let rx = &rx[..w];
     let rz = &rz[..w];
-    if bad_row(columns, left, lx, lz) {
+    if bad_factor(columns, left, lx, lz, right, rx, rz) {
         return Product::Refused(Refusal::Value);
     }
-    if bad_row(columns, right, rx, rz) {
-        return Product::Refused(Refusal::Value);
-    }
-    Product::Done(multiply_words(left, lx, lz, right, rx, rz, &mut ox[..w], &mut oz[..w]))
+    let met = multiply_words(left, lx, lz, right, rx, rz, &mut ox[..w], &mut oz[..w]);
+    let phase = met.phase;
+    Product::Done(phase, met.commute)
 }

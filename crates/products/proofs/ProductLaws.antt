@@ -1,5 +1,5 @@
 -- The product of rows of a set: multiplied from the left, row by row, it is the product of the definition; and a row multiplied on words is the algebra's product.
-use Prim.Native.Nat.{ℕ, zero, suc, _+_, _*_, _%_, _≤_, _<_}
+use Prim.Native.Nat.{ℕ, suc, _+_, _*_, _≤_, _<_}
 use native.Mathlib.Numerals.{add-one}
 use native.Mathlib.Omega.{arith}
 use mathlib.Core.Path.{_≡_, ap₂, _∙_}
@@ -10,14 +10,13 @@ use lib.Dec.{leb}
 use lib.ListN.{length, getD, drop, drop-of-length-le}
 use lib.Seq.{drop-cons}
 use Rattle.refusal.proofs.Searches.{none-at}
-use Rattle.algebra.specs.Rows.{common, Row, times, identity}
+use Rattle.algebra.specs.Rows.{Row, times, identity}
 use Rattle.algebra.specs.Modes.{Modes}
 use Rattle.algebra.proofs.RowLaws.{times-assoc, identity-times, times-identity}
-use Rattle.dense_block.specs.Words.{value, termOf, odd, digit, xors}
+use Rattle.dense_block.specs.Words.{value, termOf, xors}
 use Rattle.dense_block.proofs.Values.{Words}
 use Rattle.dense_block.proofs.Alongs.{value-xors}
 use Rattle.dense_block.proofs.Terms.{words-term, length-term}
-use Rattle.pauli.proofs.Products.{sign-of}
 use Rattle.majorana.specs.Sets.{rowAt}
 use Rattle.majorana.specs.Held.{Fits}
 use Rattle.products.specs.Products.{productOf, someHigh}
@@ -60,16 +59,11 @@ module _ (m : Modes) where
 
 module _ {n w : ℕ} {xs zs ps : List ℕ} (fits : Fits n w xs zs ps) (k : ℕ) (low : k < 2 * n) (px : Words xs) (pz : Words zs)
     (us vs : List ℕ) (lu : length us ≡ w) (lv : length vs ≡ w) (pu : Words us) (pv : Words vs) where
-  pub times-words : (f a g : ℕ) → a ≡ (f + getD ps k 0) % 4 → g ≡ (a + 2 * digit (odd vs (termOf w xs k))) % 4
+  -- with the phase of the product, the parts added word by word are the product
+  pub times-words : (f g : ℕ) → g ≡ times (rowOf f us vs) (rowAt w xs zs ps k) .p
       → rowOf g (xors us (termOf w xs k)) (xors vs (termOf w zs k)) ≡ times (rowOf f us vs) (rowAt w xs zs ps k)
-  times-words f a g h e = λ i. record { p = same-p i; x = same-x i; z = same-z i }
+  times-words f g e = λ i. record { p = e i; x = same-x i; z = same-z i }
     where
-      once : (a b d g : ℕ) → a ≡ b % 4 → g ≡ (a + 2 * d) % 4 → g ≡ (b + 2 * d) % 4
-      once a b d g h e = omega arith
-
-      same-p : g ≡ (f + getD ps k 0 + 2 * common (value vs) (value (termOf w xs k))) % 4
-      same-p = once a (f + getD ps k 0) (digit (odd vs (termOf w xs k))) g h e ∙ sign-of (f + getD ps k 0) vs (termOf w xs k)
-
       same-x : value (xors us (termOf w xs k)) ≡ times (rowOf f us vs) (rowAt w xs zs ps k) .x
       same-x = value-xors us (termOf w xs k) (omega (arith, length-term w xs k (x-row fits k low))) pu (words-term w xs k px)
 

@@ -1,5 +1,6 @@
 // The rows of a set multiplied one after the other, in words that the caller lends.
 
+use dense_block::get_term;
 use pauli::Phase;
 use refusal::Refusal;
 ghost use mathlib.Core.Path.{_≡_};
@@ -88,10 +89,10 @@ fn times_row(
     ensures { λ r. ⌜ rowOf (r .power) (now (ax .exit)) (now (az .exit)) ≡ times (rowOf (f .power) (now (ax .entry)) (now (az .entry))) (rowAt w (now (x .entry)) (now (z .entry)) (now (phases .entry)) k) ⌝ }
 {
     let p = Phase { power: phases[k] };
-    let odd = dense_block::parity_and(az, dense_block::get_term(x, w, k));
-    dense_block::xor_assign(ax, dense_block::get_term(x, w, k));
-    dense_block::xor_assign(az, dense_block::get_term(z, w, k));
-    f.add(p).double_parity(odd)
+    let met = pauli::meet(f, ax, az, p, get_term(x, w, k), get_term(z, w, k));
+    dense_block::xor_assign(ax, get_term(x, w, k));
+    dense_block::xor_assign(az, get_term(z, w, k));
+    met.phase
 }
 
 // The product of the rows, from the left, in ax and az, which hold the identity.

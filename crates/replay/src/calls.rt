@@ -4,6 +4,8 @@
 use crate::text;
 use majorana::Encoded;
 use pauli::Marked;
+use pauli::Phase;
+use pauli::Product;
 use products::RealMultiplied;
 use refusal::Answer;
 use refusal::Refusal;
@@ -202,6 +204,46 @@ pub fn product(s: &[u8], from: usize, n: usize, q: usize, x: &[u64], z: &[u64], 
     let at = text::numbers_in(s, count.next, &mut numbers, k);
     multiply(n, q, x, z, p, &numbers, k);
     at
+}
+
+// 1 for yes, 0 for no.
+fn yes(b: bool) -> u8 {
+    b as u8
+}
+
+fn multiply_rows(q: usize, left: u8, lx: &[u64], lz: &[u64], right: u8, rx: &[u64], rz: &[u64]) {
+    let l = Phase { power: left };
+    let r = Phase { power: right };
+    let mut ox = [7u64; 2];
+    let mut oz = [7u64; 2];
+    let w = words_for(q);
+    match pauli::multiply(q, l, lx, lz, r, rx, rz, &mut ox, &mut oz) {
+        Product::Done(f, c) => {
+            text::number_out(0);
+            text::bytes_out(&[f.power, yes(c)], 2);
+            text::words_out(&ox, w);
+            text::words_out(&oz, w);
+        }
+        Product::Refused(why) => refused(why),
+    }
+}
+
+// Two rows stand in the text, each its phase and two words of either part; where they end. The answer has the phase, whether the rows commute, and the parts.
+pub fn pair(s: &[u8], from: usize, q: usize) -> usize {
+    let mut left = [0u8; 1];
+    let mut lx = [0u64; 2];
+    let mut lz = [0u64; 2];
+    let mut right = [0u8; 1];
+    let mut rx = [0u64; 2];
+    let mut rz = [0u64; 2];
+    let a = text::bytes_in(s, from, &mut left, 1);
+    let b = text::words_in(s, a, &mut lx, 2);
+    let c = text::words_in(s, b, &mut lz, 2);
+    let d = text::bytes_in(s, c, &mut right, 1);
+    let e = text::words_in(s, d, &mut rx, 2);
+    let end = text::words_in(s, e, &mut rz, 2);
+    multiply_rows(q, left[0], &lx, &lz, right[0], &rx, &rz);
+    end
 }
 
 pub fn maxnto(n: usize) {

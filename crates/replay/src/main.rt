@@ -1,9 +1,9 @@
 // Replays a fixed list of cases and writes the library's answers. Standard input has a case a line, in hexadecimal numbers: the call, modes, qubits, and what the call
 // takes. A line of the answers has the number handed back and, if it is done, the values. The file `stdout` beside src/ has the answers of the Rust to the same
-// cases, so that the two are compared wherever this program is run (oracle/list made both files).
+// cases, so that the two are compared wherever this program is run (oracle/list made both files). For `multiply` they are those of a stand-in (oracle/README.md).
 //
 //   0 determine_vacuum_state, 1 new, 2 check_rows, 3 try_encode, 4 decode_zbasis_state, 5 apply_mode_enumeration, 6 product_real, 7 maxnto,
-//   8 from_name, 9 from_flatpack, a from_flatpack_naive
+//   8 from_name, 9 from_flatpack, a from_flatpack_naive, b multiply (two rows; modes is 1, and not looked at)
 
 mod calls; // calls.rt: each call, and its answer written
 mod text; // text.rt: numbers read and written
@@ -79,6 +79,9 @@ fn one(s: &[u8], from: usize) -> usize {
         let tree = text::number_in(s, q.next);
         calls::named(tree.value, modes, qubits);
         return tree.next;
+    }
+    if call.value == 11 {
+        return calls::pair(s, q.next, qubits);
     }
     calls::flatpack(call.value == 9, s, q.next, modes, qubits)
 }

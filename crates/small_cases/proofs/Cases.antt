@@ -3,7 +3,7 @@
 use Prim.Native.Nat.{ℕ, suc}
 use mathlib.Core.Path.{_≡_, refl}
 use mathlib.Core.List.{List, [], _∷_, _++_}
-use mathlib.Core.Bool.{false}
+use mathlib.Core.Bool.{Bool, true, false}
 use lib.Count.{ones, onesIn}
 use lib.Ieee.{Float, fin, neg}
 use lib.IntN.{pos}
@@ -17,7 +17,10 @@ use Rattle.algebra.specs.Solving.{spans, dependentColumn, plain, solvable, solv
 use Rattle.dense_block.specs.Words.{strays}
 use Rattle.pauli.specs.declared.Marked.{Marked}
 use Rattle.pauli.specs.declared.Marked.the-variants.{Imag}
+use Rattle.pauli.specs.declared.Product.the-variants.{Done as Product·Done, Refused as Product·Refused}
 use Rattle.pauli.specs.Phases.{letterPower}
+use Rattle.pauli.specs.Product as pauli
+use Rattle.pauli.specs.Product.{LentRow}
 use Rattle.products.specs.declared.RealMultiplied.the-variants.{Done}
 use Rattle.majorana.specs.Sets.{Set, given, badSize, badRowAt, badRows}
 use Rattle.majorana.specs.Checks.{vacuumBad, rowsShort, rowsChecked, RowsChecked}
@@ -27,7 +30,7 @@ use Rattle.products.specs.Products.{productOf, productSize, productShort, someH
 use Rattle.majorana.specs.declared.Encoded.the-variants.{Done as Made}
 use Rattle.refusal.specs.declared.Answer.{Answer}
 use Rattle.refusal.specs.declared.Answer.the-variants.{Done as Fine, Refused}
-use Rattle.refusal.specs.declared.Refusal.the-variants.{NoVacuum, Undecodable, Commuting}
+use Rattle.refusal.specs.declared.Refusal.the-variants.{Value, NoVacuum, Undecodable, Commuting}
 use Rattle.maxnto.specs.Formula.{columns, xPart, zPart, phaseOf}
 use Rattle.maxnto.specs.Call as maxnto
 use Rattle.trees.specs.Trees.{parentIn, climb, twiceIn, faultOf, firstFault, scattered}
@@ -61,6 +64,9 @@ data Case : Type 0 where
   checks : Set → ℕ → Answer → Case
   -- the product of rows of these numbers, with a real coefficient: its phase and parts, and the coefficient that comes back
   multiplies : Set → List ℕ → Float → ℕ → ℕ → ℕ → Marked → Case
+  -- the product of two rows on two columns, of one word a part: its phase, whether the rows commute, and the parts; or 17
+  pairs : LentRow → LentRow → ℕ → Bool → ℕ → ℕ → Case
+  unpaired : LentRow → LentRow → Case
   -- MaxNTO on two modes is done: it writes the rows of this set
   maxntos : Set → Case
 
@@ -75,6 +81,9 @@ left ws = ws ++ (9 ∷ [])
 abbrev cleared : ℕ → List ℕ
 cleared k = left (replicate k 0)
 
+abbrev pair : LentRow → LentRow → pauli.Input
+pair l r = record { q = 2; left = l; right = r; out-xs = lent 1; out-zs = lent 1 }
+
 abbrev Holds : Case → Type 0
 Holds (reports text out) = output text ≡ out
 Holds (builds t s) = NamedBuilt (asked t 2 2 (lent 4) (lent 4) (lent 4) (lent 1) (lent 8)) Fine (left (s .xs)) (left (s .zs)) (left (s .ps)) (left (0b00 ∷ [])) (cleared 8)
@@ -85,6 +94,8 @@ Holds (solves s v) = Solves s (lent 1) (lent 2) Fine (left (v ∷ [])) (cleared 
 Holds (unsolved s) = Solves s (lent 1) (lent 2) (Refused NoVacuum) (lent 1) (cleared 2)
 Holds (checks s v a) = RowsChecked s (v ∷ []) (lent 4) a (cleared 4)
 Holds (multiplies s ks c f x z m) = RealMultiplies s ks c (lent 1) (lent 1) (Done (record { power = f }) m) (left (x ∷ [])) (left (z ∷ []))
+Holds (pairs l r f c x z) = pauli.Multiplied (pair l r) (Product·Done (record { power = f }) c) (left (x ∷ [])) (left (z ∷ []))
+Holds (unpaired l r) = pauli.Multiplied (pair l r) (Product·Refused Value) (lent 1) (lent 1)
 Holds (maxntos s) = maxnto.Built (maxnto.given 2 (lent 4) (lent 4) (lent 4)) Fine (left (s .xs)) (left (s .zs)) (left (s .ps))
 
 -- every case of a list
@@ -119,6 +130,10 @@ twins p0 p1 = given 1 1 (1 ∷ 1 ∷ []) (0 ∷ 0 ∷ []) (p0 ∷ p1 ∷ [])
 abbrev wide : Set
 wide = given 1 2 (1 ∷ 1 ∷ []) (0 ∷ 1 ∷ []) (0 ∷ 1 ∷ [])
 
+-- a row on two columns
+abbrev row : ℕ → ℕ → ℕ → LentRow
+row p x z = pauli.lentRow p (x ∷ []) (z ∷ [])
+
 -- 2 is 1 · 2^1
 abbrev two : Float
 two = fin false 1 (pos 1)
@@ -142,6 +157,12 @@ cases =
     ∷ decodes wide 0b00 0b01 1
     ∷ multiplies jordan-wigner-2 (0 ∷ 1 ∷ []) two 1 0b00 0b01 (Imag two)
     ∷ multiplies jordan-wigner-2 (1 ∷ 0 ∷ []) two 3 0b00 0b01 (Imag (neg two))
+    ∷ pairs (row 0 0b01 0b00) (row 1 0b01 0b01) 1 false 0b00 0b01
+    ∷ pairs (row 1 0b01 0b01) (row 0 0b01 0b00) 3 false 0b00 0b01
+    ∷ pairs (row 0 0b01 0b00) (row 0 0b10 0b00) 0 true 0b11 0b00
+    ∷ pairs (row 1 0b01 0b01) (row 1 0b01 0b01) 0 true 0b00 0b00
+    ∷ pairs (row 0 0b11 0b00) (row 0 0b00 0b11) 0 true 0b11 0b11
+    ∷ unpaired (row 4 0b01 0b00) (row 0 0b01 0b00)
     ∷ maxntos maxnto-2
     ∷ []
 
@@ -153,6 +174,7 @@ unfolding namedAnswer outside twiceIn firstFault faultOf scattered climb
     vacuum solved solveShort solvable solvedVacuum plain dependentColumn spans vacuumRule
     rowsChecked rowsShort vacuumBad commutingPair firstPair clash dependent combo
     productOf productSize productShort someHigh productBad productRefused letterPower neg
+    pauli.badColumns pauli.badRow pauli.tooShort pauli.refused pauli.multiplied pauli.productX pauli.productZ
     xPart zPart phaseOf columns maxnto.badModes maxnto.oddModes maxnto.tooShort maxnto.answer maxnto.xsLeft maxnto.zsLeft maxnto.psLeft
 small-cases =
     two-modes-output
@@ -170,6 +192,12 @@ small-cases =
     and record { answer = refl; string = refl; work = refl }
     and record { answer = refl; list = refl }
     and record { answer = refl; list = refl }
+    and record { answer = refl; x-part = refl; z-part = refl }
+    and record { answer = refl; x-part = refl; z-part = refl }
+    and record { answer = refl; x-part = refl; z-part = refl }
+    and record { answer = refl; x-part = refl; z-part = refl }
+    and record { answer = refl; x-part = refl; z-part = refl }
+    and record { answer = refl; x-part = refl; z-part = refl }
     and record { answer = refl; x-part = refl; z-part = refl }
     and record { answer = refl; x-part = refl; z-part = refl }
     and record { told = refl; x-parts = refl; z-parts = refl; phases = refl }

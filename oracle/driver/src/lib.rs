@@ -3,7 +3,7 @@
 use ferrmion_core::encode::majorana::MajoranaEncoding;
 use ferrmion_core::encode::maxnto::maxnto_symplectic_matrix;
 use ferrmion_core::encode::ternarytree::TernaryTree;
-use ferrmion_core::operators::SymplecticMatrix;
+use ferrmion_core::operators::{SymplecticMatrix, SymplecticOperator};
 use ferrmion_core::states::ZBasisState;
 use ndarray::{Array1, Array2};
 use num_complex::Complex64;
@@ -79,7 +79,7 @@ pub mod ours {
             )
         }
     }
-    pub fn multiply(q: usize, left: u8, lx: &[u64], lz: &[u64], right: u8, rx: &[u64], rz: &[u64], ox: &mut [u64], oz: &mut [u64]) -> Phase {
+    pub fn multiply(q: usize, left: u8, lx: &[u64], lz: &[u64], right: u8, rx: &[u64], rz: &[u64], ox: &mut [u64], oz: &mut [u64]) -> Multiplied {
         unsafe {
             ropethistle_multiply(
                 q, left, lx.as_ptr(), lx.len(), lz.as_ptr(), lz.len(), right, rx.as_ptr(), rx.len(), rz.as_ptr(), rz.len(),
@@ -478,16 +478,26 @@ pub fn vacuum(r: &mut Random, s: &Set) -> Vec<u64> {
     r.bits(s.q)
 }
 
-/// The first pair of rows that commute, by the Rust's own counts.
+/// Whether two rows commute, by the Rust's own counts.
+pub fn commute(m: &SymplecticMatrix, i: usize, j: usize) -> bool {
+    let k = m.x_block.get_term(i).and_count_ones(&m.z_block.get_term(j)) + m.z_block.get_term(i).and_count_ones(&m.x_block.get_term(j));
+    k % 2 == 0
+}
+
+/// The first pair of rows that commute.
 pub fn commuting(e: &MajoranaEncoding) -> (usize, usize) {
     let m = &e.operators;
     for i in 0..m.n_rows {
         for j in i + 1..m.n_rows {
-            let k = m.x_block.get_term(i).and_count_ones(&m.z_block.get_term(j)) + m.z_block.get_term(i).and_count_ones(&m.x_block.get_term(j));
-            if k % 2 == 0 {
+            if commute(m, i, j) {
                 return (i, j);
             }
         }
     }
     (0, 0)
+}
+
+/// The product of rows of these numbers, by the stand-in.
+pub fn times(m: &SymplecticMatrix, numbers: &[usize]) -> SymplecticOperator {
+    numbers.iter().fold(SymplecticOperator::identity(m.n_qubits), |a, &k| a * m.view_row(k))
 }

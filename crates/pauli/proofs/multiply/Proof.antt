@@ -1,20 +1,17 @@
 -- `pauli::multiply` meets its contract: the tests in their order, and then the product of the words that the columns take.
--- ---- after the tests of the columns and of the lengths
--- ---- after the tests of the two rows
-use Prim.Native.Nat.{ℕ, _+_, _*_, _%_, _≤_}
-use native.Mathlib.Omega.{arith}
+use Prim.Native.Nat.{ℕ}
 use mathlib.Core.Path.{_≡_, sym, ap, _∙_}
-use mathlib.Core.Bool.{Bool, true, false, _||_}
+use mathlib.Core.Bool.{false}
 use mathlib.Core.List.{List, [], _∷_, _++_}
 use lib.ListN.{length, take, drop}
 use lib.Seq.{length-take-le}
-use Rattle.refusal.specs.Table.{Lent, _of_, short}
+use Rattle.refusal.specs.Table.{Lent, _of_}
 use Rattle.refusal.proofs.Rooms.{Hold, hold}
 use lib.Bits.{bitXor}
-use Rattle.algebra.specs.Rows.{common}
+use Rattle.algebra.specs.Rows.{times}
 use Rattle.dense_block.specs.Words.{value, filled}
-use Rattle.pauli.specs.Product.{Input, given, trimmed, badColumns, badRow, tooShort}
-use Rattle.pauli.proofs.Products.{by-columns, by-short, by-value, by-none, valueTest, sum-filled, sign-of}
+use Rattle.pauli.specs.Product.{Input, given, firstWords, rowOf, commuting, badColumns, tooShort}
+use Rattle.pauli.proofs.Products.{by-columns, by-short, by-value, by-none, valueTest, sum-filled}
 use borrow.Author.Needs.{needs}
 use Rattle.pauli.proofs.multiply.Statement.{statement}
 use Rattle.pauli.proofs.multiply.Tie as tie
@@ -24,6 +21,8 @@ abbrev input : tie.Start → Input
 input c =
     let a = c .args in
     given (a .columns) (a .left .power) (a .lx .now) (a .lz .now) (a .right .power) (a .rx .now) (a .rz .now) (a .ox .now) (a .oz .now)
+
+-- ---- after the tests of the columns and of the lengths
 
 abbrev start : tie.Else2 → tie.Start
 start c = c .before .before .before .before .before .before .before .before .before .before .before
@@ -47,13 +46,13 @@ lengths-pass c = rw (c .before .before .words-for .ensures) at (sym (c .before .
 holds : (c : tie.Else2) → Hold (lent c)
 holds c = hold (lent c) (sym (c .before .any-short .ensures) ∙ c .if2 .left)
 
-abbrev trimmed-all : tie.Else4 → tie.Else2
-trimmed-all c = c .before .before .before .before .before .before .before .before
+-- ---- after the test of the two rows
 
-rows-pass : (c : tie.Else4) → valueTest (input (start (trimmed-all c))) ≡ false
-rows-pass c =
-    let w = trimmed-all c .before .before .words-for .ensures in
-    rw (rw w at (sym (c .before .before .before .bad-row .ensures) ∙ c .before .before .if3 .left)) (rw w at (sym (c .before .bad-row2 .ensures) ∙ c .if4 .left))
+abbrev trimmed-all : tie.Else3 → tie.Else2
+trimmed-all c = c .before .before .before .before .before .before
+
+rows-pass : (c : tie.Else3) → valueTest (input (start (trimmed-all c))) ≡ false
+rows-pass c = rw (trimmed-all c .before .before .words-for .ensures) at (sym (c .before .bad-factor .ensures) ∙ c .if3 .left)
 
 bad-columns-requires : tie.Need-bad-columns-requires
 bad-columns-requires c κs = search needs
@@ -88,23 +87,13 @@ slice-aggregate-rx c = sym (length-take-le _ _ (holds (c .before .before .before
 slice-aggregate-rz : tie.Need-slice-aggregate-rz
 slice-aggregate-rz c = sym (length-take-le _ _ (holds (c .before .before .before .before) .1 .1 .1 .0))
 
-bad-row-requires : tie.Need-bad-row-requires
-bad-row-requires c κs = search needs
+bad-factor-requires : tie.Need-bad-factor-requires
+bad-factor-requires c κs = search needs
 
 returns-3 : tie.Need-returns-3
 returns-3 c =
     let e = c .before .before .before .before .before .before in
-    by-value (input (start e)) (columns-pass e) (lengths-pass e) (rw (rw (e .before .before .words-for .ensures) at (sym (c .before .bad-row .ensures) ∙ c .if3 .taken)))
-
-bad-row-requires-2 : tie.Need-bad-row-requires-2
-bad-row-requires-2 c κs = search needs
-
-returns-4 : tie.Need-returns-4
-returns-4 c =
-    let e = c .before .before .before .before .before .before .before .before in
-    let w = e .before .before .words-for .ensures in
-    by-value (input (start e)) (columns-pass e) (lengths-pass e)
-    (rw (rw w at (sym (c .before .before .before .bad-row .ensures) ∙ c .before .before .if3 .left)) (rw w at (sym (c .before .bad-row2 .ensures) ∙ c .if4 .taken)))
+    by-value (input (start e)) (columns-pass e) (lengths-pass e) (rw (e .before .before .words-for .ensures) at (sym (c .before .bad-factor .ensures) ∙ c .if3 .taken))
 
 slice-relend-prefix-multiply-words : tie.Need-slice-relend-prefix-multiply-words
 slice-relend-prefix-multiply-words c = holds (trimmed-all c) .1 .1 .1 .1 .0
@@ -131,18 +120,20 @@ same-length c = search needs
 same-length-2 : tie.Need-same-length-2
 same-length-2 c = search needs
 
-returns-5 : tie.Need-returns-5
-returns-5 c =
-    let m = c .before .before .before .before .multiply-words in
-    let p = c .before .before .before .before .before .before .before in
+returns-4 : tie.Need-returns-4
+returns-4 c =
+    let written = c .before .before .before .before .before in
+    let m = written .multiply-words in
+    let p = written .before .before .before in
     let e = trimmed-all p in
     let a = start e .args in
     let same = e .before .before .words-for .ensures in
     let h = holds e in
     let known = e .before .before .before .before .before .before .before in
-    by-none (input (start e)) (columns-pass e) (lengths-pass e) (rows-pass p) (m .result) _ _
-    (m .ensures .0 ∙ sign-of (a .left .power + a .right .power) (take (words e) (a .lz .now)) (take (words e) (a .rx .now))
-    ∙ ap (λ (n : ℕ). (a .left .power + a .right .power + 2 * common (value (take n (a .lz .now))) (value (take n (a .rx .now)))) % 4) same)
+    let i = input (start e) in
+    by-none i (columns-pass e) (lengths-pass e) (rows-pass p) (m .result .phase) (m .result .commute) _ _
+    (m .ensures .0 .phase ∙ ap (λ (n : ℕ). times (rowOf (firstWords n (i .left))) (rowOf (firstWords n (i .right))) .p) same)
+    (m .ensures .0 .commute ∙ ap (λ (n : ℕ). commuting (rowOf (firstWords n (i .left))) (rowOf (firstWords n (i .right)))) same)
     (ap (λ (l : List ℕ). l ++ drop (words e) (a .ox .now)) (m .ensures .1 .0)
     ∙ sum-filled (words e) (a .lx .now) (a .rx .now) (a .ox .now) (h .0) (h .1 .1 .0)
     (λ k. known .before .before .before .shared-slice-known .given k .fits) (λ k. known .before .shared-slice-known3 .given k .fits)
@@ -165,10 +156,8 @@ multiply-spec =
     slice-aggregate-lz
     slice-aggregate-rx
     slice-aggregate-rz
-    bad-row-requires
+    bad-factor-requires
     returns-3
-    bad-row-requires-2
-    returns-4
     slice-relend-prefix-multiply-words
     slice-aggregate-multiply-words
     slice-relend-prefix-multiply-words-2
@@ -176,4 +165,4 @@ multiply-spec =
     multiply-words-requires
     same-length
     same-length-2
-    returns-5)
+    returns-4)

@@ -1,7 +1,4 @@
--- `pauli::multiply_words` meets its contract: what its calls ensure, with the phase reduced once.
-use mathlib.Core.Path.{ap}
-use native.Mathlib.Omega.{arith}
-use Rattle.dense_block.specs.Words.{digit}
+-- `pauli::multiply_words` meets its contract: what its three calls ensure.
 use borrow.Author.Needs.{needs}
 use Rattle.pauli.proofs.multiply_words.Statement.{statement}
 use Rattle.pauli.proofs.multiply_words.Tie as tie
@@ -12,14 +9,8 @@ sum-into-requires c κs = search needs
 sum-into-requires-2 : tie.Need-sum-into-requires-2
 sum-into-requires-2 c κs = search needs
 
-parity-and-requires : tie.Need-parity-and-requires
-parity-and-requires c κs = search needs
-
-add-requires : tie.Need-add-requires
-add-requires c κs = search needs
-
-double-parity-requires : tie.Need-double-parity-requires
-double-parity-requires c κs = search needs
+meet-requires : tie.Need-meet-requires
+meet-requires c κs = search needs
 
 same-length : tie.Need-same-length
 same-length c = search needs
@@ -29,8 +20,8 @@ same-length-2 c = search needs
 
 returns : tie.Need-returns
 returns c = (
-  omega (arith, c .double-parity .ensures, c .before .add .ensures, ap digit (c .before .before .parity-and .ensures)),
-  (c .before .before .before .before .before .before .before .before .before .sum-into .ensures, c .before .before .before .before .before .sum-into2 .ensures),
+  c .meet .ensures,
+  (c .before .before .before .before .before .before .before .sum-into .ensures, c .before .before .before .sum-into2 .ensures),
 )
 
 pub multiply-words-spec : {M : Type 1} → statement M
@@ -39,9 +30,7 @@ multiply-words-spec =
     (tie.spec
     sum-into-requires
     sum-into-requires-2
-    parity-and-requires
-    add-requires
-    double-parity-requires
+    meet-requires
     same-length
     same-length-2
     returns)

@@ -7,7 +7,7 @@ use ferrmion_core::encode::majorana::{Encode, MajoranaEncoding, MajoranaEncoding
 use ferrmion_core::encode::maxnto::maxnto_symplectic_matrix;
 use ferrmion_core::encode::ternarytree::{TernaryTree, TernaryTreeError};
 use ferrmion_core::hamiltonians::QubitHamiltonian;
-use ferrmion_core::operators::{MajoranaProduct, SymplecticOperator};
+use ferrmion_core::operators::MajoranaProduct;
 use ferrmion_core::states::{FockState, ZBasisEnsemble};
 use num_complex::Complex64;
 use std::collections::BTreeMap;
@@ -219,7 +219,7 @@ fn letters(x: &[u64], z: &[u64], q: usize) -> String {
 fn product(t: &mut Tally, r: &mut Random, s: &Set, e: &MajoranaEncoding, numbers: &[usize], re: f64, im: f64) {
     let QubitHamiltonian(h) = e.encode(MajoranaProduct::new(numbers.to_vec(), Complex64::new(re, im)));
     let (text, c) = h.into_iter().next().unwrap();
-    let op = numbers.iter().fold(SymplecticOperator::identity(s.q), |a, &k| a * e.operators.view_row(k));
+    let op = times(&e.operators, numbers);
     let (mut ox, xs) = lent(r, s.w());
     let (mut oz, zs) = lent(r, s.w());
     let a = ours::product(s, numbers, re, im, &mut ox, &mut oz);
@@ -230,15 +230,24 @@ fn product(t: &mut Tally, r: &mut Random, s: &Set, e: &MajoranaEncoding, numbers
     let value = parts(&ox, &oz) && a.re == c.re && a.im == c.im;
     let bits = (a.re.to_bits(), a.im.to_bits()) == (c.re.to_bits(), c.im.to_bits());
     t.judge("product", a.number, "Ok", value && bits, value.then_some(ZERO), || format!("{s:?} {numbers:?} {re} {im} answer {a:?} rust {c:?}"));
+    // what a call before has left is spoiled, so that a call that writes nothing shows
+    let spoil = |o: &mut [u64]| o[..w].iter_mut().for_each(|k| *k = !*k);
+    spoil(&mut ox);
+    spoil(&mut oz);
     if im == 0. {
         let b = ours::product_real(s, numbers, re, &mut ox, &mut oz);
         let (br, bi) = if b.imaginary == 0 { (b.value, 0.) } else { (0., b.value) };
         let equal = parts(&ox, &oz) && b.number == 0 && b.phase == a.phase && b.imaginary < 2 && br == c.re && bi == c.im;
         t.judge("product_real", b.number, "Ok", equal, None, || format!("{s:?} {numbers:?} {re} answer {b:?} rust {c:?}"));
+        spoil(&mut ox);
+        spoil(&mut oz);
     }
     if let [i, j] = *numbers {
         let f = ours::multiply(s.q, s.p[i], s.row_x(i), s.row_z(i), s.p[j], s.row_x(j), s.row_z(j), &mut ox, &mut oz);
-        let equal = parts(&ox, &oz) && f.number == 0 && f.phase == op.ipower as usize;
+        // by the phases of the two orders, and by the Rust's own counts
+        let same = op.ipower == times(&e.operators, &[j, i]).ipower;
+        let swaps = f.commute == same as usize && same == commute(&e.operators, i, j);
+        let equal = parts(&ox, &oz) && f.number == 0 && f.phase == op.ipower as usize && swaps;
         t.judge("multiply", f.number, "Ok", equal, None, || format!("{s:?} {numbers:?} answer {f:?}"));
     }
 }

@@ -7,7 +7,7 @@ use ferrmion_core::encode::majorana::{Encode, MajoranaEncoding, MajoranaEncoding
 use ferrmion_core::encode::maxnto::maxnto_symplectic_matrix;
 use ferrmion_core::encode::ternarytree::{TernaryTree, TernaryTreeError as T};
 use ferrmion_core::hamiltonians::QubitHamiltonian;
-use ferrmion_core::operators::{MajoranaProduct, SymplecticMatrix};
+use ferrmion_core::operators::{DenseBlock, MajoranaProduct, SymplecticMatrix};
 use ferrmion_core::states::FockState;
 use num_complex::Complex64;
 use std::panic::{catch_unwind, AssertUnwindSafe};
@@ -155,6 +155,35 @@ fn on_tree(l: &mut List, leaves: bool, f: &Flat, q: usize) {
     }
 }
 
+/// Two rows multiplied: the phase, whether the other order has the same one, and the parts.
+fn pair(l: &mut List, s: &Set) {
+    let m = s.to_rust();
+    let (op, back) = (times(&m, &[0, 1]), times(&m, &[1, 0]));
+    let row = |k: usize| [&[s.p[k] as u64][..], &two(s.row_x(k)), &two(s.row_z(k))].concat();
+    let part = |b: &DenseBlock| packed(&b.get_term(0).to_bool_array(), s.q);
+    let c = [&[11, 1, s.q as u64][..], &row(0), &row(1)].concat();
+    l.add(&c, &done(&[&[op.ipower as u64, (op.ipower == back.ipower) as u64], &part(&op.x), &part(&op.z)]));
+}
+
+/// Random rows; the first one with itself; and with one that differs from it in the last column only.
+fn pairs(l: &mut List, r: &mut Random) {
+    for q in [1, 2, 3, 5, 63, 64, 65, 127, 128] {
+        for _ in 0..2 {
+            let mut s = Set::zeros(1, q);
+            (s.x, s.z) = ([r.bits(q), r.bits(q)].concat(), [r.bits(q), r.bits(q)].concat());
+            s.p = vec![r.below(4) as u8, r.below(4) as u8];
+            pair(l, &s);
+            let w = s.w();
+            s.x.copy_within(..w, w);
+            s.z.copy_within(..w, w);
+            s.p[1] = s.p[0];
+            pair(l, &s);
+            flip(&mut s.x[w..], q - 1);
+            pair(l, &s);
+        }
+    }
+}
+
 fn main() {
     std::panic::set_hook(Box::new(|_| ()));
     let (l, r) = (&mut List::default(), &mut Random(7));
@@ -202,6 +231,7 @@ fn main() {
         let s = widen(r, &s, 65 + n);
         on_set(l, r, &s, true);
     }
+    pairs(l, r);
     assert!(l.cases.len() <= 65536, "the program reads no more: {}", l.cases.len());
     let files: Vec<String> = std::env::args().skip(1).collect();
     std::fs::write(&files[0], &l.cases).unwrap();
