@@ -10,13 +10,12 @@ ghost use mathlib.Core.Path.{_≡_};
 ghost use mathlib.Core.Bool.{_||_};
 ghost use mathlib.Core.List.{_++_};
 ghost use Prim.Native.Nat.{_+_, _*_, _≤_, _<_};
-ghost use lib.Dec.{eqb};
 ghost use lib.ListN.{length};
 ghost use Rattle.refusal.specs.Numbers.{answered};
-ghost use Rattle.algebra.specs.Rows.{clash};
 ghost use Rattle.algebra.specs.Modes.{commutingPair};
 ghost use Rattle.algebra.specs.Choices.{dependent};
 ghost use Rattle.dense_block.specs.Words.{value, termOf, withTerm, strays};
+ghost use Rattle.pauli.specs.Product.{commuting};
 ghost use Rattle.majorana.specs.Sets.{rowAt, modesAt, badRows};
 ghost use Rattle.majorana.specs.Held.{Fits, Held};
 ghost use Rattle.majorana.specs.Rooms.{pairOf, Loaded, Same, taskChecked, valueChecked};
@@ -30,7 +29,7 @@ pub enum Found {
 // Whether rows j and k commute.
 fn commute(modes: usize, w: usize, x: &[u64], z: &[u64], phases: &[u8], j: usize, k: usize) -> bool
     requires { ⌜ Fits modes w (now x) (now z) (now phases) × (j < 2 * modes) × (k < 2 * modes) ⌝ }
-    ensures { λ r. ⌜ r ≡ eqb (clash (rowAt w (now (x .entry)) (now (z .entry)) (now (phases .entry)) j) (rowAt w (now (x .entry)) (now (z .entry)) (now (phases .entry)) k)) 0 ⌝ }
+    ensures { λ r. ⌜ r ≡ commuting (rowAt w (now (x .entry)) (now (z .entry)) (now (phases .entry)) j) (rowAt w (now (x .entry)) (now (z .entry)) (now (phases .entry)) k) ⌝ }
 {
     let a = Phase { power: phases[j] };
     let b = Phase { power: phases[k] };
