@@ -51,6 +51,16 @@ def declared(text):
                 yield name
 
 
+def of_library(text, crates):
+    """The names that a .antt text imports from no crate of this repository: they stay in it."""
+    found = set()
+    for path, items in re.findall(r"(?m)^use ([^\s{]+?)\.?\{([^}]*)\}", text):
+        steps = path.split(".")
+        if steps[0] != "Rattle" or len(steps) < 2 or steps[1] not in crates:
+            found.update(it.strip().split(" as ")[0] for it in items.split(","))
+    return found
+
+
 def turn(text, table):
     return WORD.sub(lambda m: table.get(m[0], m[0]), text)
 
@@ -97,8 +107,11 @@ def main():
         for (new, olds), where in sorted(clash.items()):
             print(f"{', '.join(olds)} would both be {new}: {', '.join(sorted(where))[:400]}")
         return 1
+    crates = {p.name for p in root.glob("crates/*")}
     for p in antt + edits:
-        p.write_text(turn(p.read_text(), {**table, **NEW_IN.get(str(p), {})}))
+        text = p.read_text()
+        stays = {n: n for n in of_library(text, crates)}
+        p.write_text(turn(text, {**table, **NEW_IN.get(str(p), {}), **stays}))
     for p in rt:
         p.write_text(turn_rt(p.read_text(), table))
     for p in pages:

@@ -9,7 +9,7 @@ use mathlib.Core.Bool.{true, false, ◌&&◌}
 use lib.Dec.{eqb, ltb}
 use lib.Pow.{pow_pos}
 use lib.Bits.{bit_xor, xor_zero_r}
-use borrow.Author.Tests.{eqb-true, ltb_true}
+use borrow.Author.Tests.{eqb-true, ltb-true}
 use Rattle.refusal.proofs.Bools.{and_left, and_right, is_false}
 use Rattle.refusal.proofs.Searches.{none_of}
 use Rattle.algebra.specs.Rows.{bit, Row, clash}
@@ -86,4 +86,4 @@ anticommuting_independent m maj = none_of (2 ^ (2 * m.n)) _ (λ choice l. is_fal
         let zeros = and_right (ltb 0 choice) (eqb r.x 0 && eqb r.z 0) t in
         let x = eqb-true r.x 0 (and_left (eqb r.x 0) (eqb r.z 0) zeros) in
         let z = eqb-true r.z 0 (and_right (eqb r.x 0) (eqb r.z 0) zeros) in
-        omega (arith, ltb_true 0 choice (and_left (ltb 0 choice) _ t), nothing_chosen m choice maj l x z)
+        omega (arith, ltb-true 0 choice (and_left (ltb 0 choice) _ t), nothing_chosen m choice maj l x z)

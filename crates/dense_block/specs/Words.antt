@@ -1,5 +1,5 @@
 -- A bit row packed into 64 bit words is the number that the words stand for, the lowest word first. What each function makes of words.
-use Rattle.std.specs.Prelude.{ℕ, zero, suc, ◌+◌, ◌-◌, ◌*◌, ◌/◌, ◌%◌, ◌^◌, Bool, true, false, ◌&&◌, List, [], ◌∷◌, ◌++◌, take, drop, set, ◌==◌, bit_and, bit_xor, nat_lt, slice_index, slice_set}
+use Rattle.std.specs.Prelude.{ℕ, zero, suc, ◌+◌, ◌-◌, ◌*◌, ◌/◌, ◌%◌, ◌^◌, Bool, true, false, ◌&&◌, List, [], ◌∷◌, ◌++◌, take, drop, ◌==◌, bit_and, bit_xor, nat_lt, slice_index, slice_set}
 use Rattle.refusal.specs.Search.{some_below}
 use Rattle.algebra.specs.Rows.{bit, dot}
 

@@ -9,6 +9,8 @@
 //   clear, copy, same, stray        words made zero, copied and compared; a bit past the last column
 //   get_term, stray_block           a row of a block of rows; a bit past the last column in one of them
 
+#![tactic(auto)]
+
 ghost use Rattle.std.specs.Prelude.{◌≡◌, ℕ, ◌+◌, ◌*◌, ◌/◌, ◌%◌, ◌^◌, ◌<◌, ◌≤◌, min, ltb, length, ◌==◌, bit_xor, count_ones, nat_lt, slice_index};
 ghost use Rattle.refusal.specs.Search.{some_below};
 ghost use Rattle.algebra.specs.Rows.{common, dot};

@@ -7,7 +7,7 @@ use mathlib.Core.Logic.{◌≢◌}
 use mathlib.Core.Bool.{Bool, true, false, ◌&&◌}
 use lib.Dec.{eqb, ltb}
 use lib.Pow.{pow_mono}
-use borrow.Author.Tests.{eqb-true, eqb-false, eq-eqb, ne_eqb, ltb_true, lt-ltb}
+use borrow.Author.Tests.{eqb-true, eqb-false, eq-eqb, ne_eqb, ltb-true, lt-ltb}
 use Rattle.refusal.proofs.Bools.{and_left, and_right, both, is_false}
 use Rattle.refusal.proofs.Searches.{some_of, some_at, none_of, none_at, some_here, some_below_lem, some_none}
 use Rattle.algebra.specs.Choices.{combo}
@@ -31,7 +31,7 @@ module _ (n k : ℕ) (f g : ℕ → ℕ) (d : Eliminated n k f g k) where
   pub dependent_no : ((r : ℕ) → r < k → g r % 2 ^ n ≢ 0) → dependent_among k f ≡ false
   unfolding dependent_among
   dependent_no full = none_of (2 ^ k) vanishes (λ m l. is_false (vanishes m) (λ t.
-      never m l (ltb_true 0 m (and_left (ltb 0 m) (eqb (combo f k m) 0) t)) (eqb-true (combo f k m) 0 (and_right (ltb 0 m) (eqb (combo f k m) 0) t))))
+      never m l (ltb-true 0 m (and_left (ltb 0 m) (eqb (combo f k m) 0) t)) (eqb-true (combo f k m) 0 (and_right (ltb 0 m) (eqb (combo f k m) 0) t))))
     where
       never : (m : ℕ) → m < 2 ^ k → 0 < m → combo f k m ≡ 0 → ⊥
       never m l p z =

@@ -4,6 +4,8 @@
 //   dependent_rows      whether some nonempty choice of the rows has xor zero
 //   solve_rows          the solution of equations that is zero in each column equal to a xor of some columns before it
 
+#![tactic(auto)]
+
 ghost use Rattle.std.specs.Prelude.{◌≡◌, true, ℕ, ◌+◌, ◌*◌, ◌^◌, ◌<◌, ◌≤◌, length, get_or};
 ghost use Rattle.dense_block.specs.Words.{value, term_of};
 ghost use Rattle.elimination.specs.Eliminated.{Lowest, Swept, Settled, Eliminated, Substituted};

@@ -8,7 +8,7 @@ use mathlib.Core.Path.{◌≡◌, refl, sym, ap, ◌∙◌}
 use mathlib.Core.Logic.{◌≢◌}
 use mathlib.Core.List.{List, [], ◌∷◌, ◌++◌, append_assoc}
 use mathlib.Core.Bool.{Bool, true, false, not, ◌&&◌, ◌||◌}
-use borrow.Author.Tests.{eq-eqb, ne_eqb, lt-ltb, le-ltb, ltb_true, not-true}
+use borrow.Author.Tests.{eq-eqb, ne_eqb, lt-ltb, le-ltb, ltb-true, not-true}
 use lib.Dec.{eqb, ltb}
 use lib.ListN.{length, get_or, take, drop, set, length-append, length-take, length-drop}
 use lib.Seq.{take_at, drop_at, drop-drop, get_or-take, get_or-drop, set_split}
@@ -70,7 +70,7 @@ module _ (n : ℕ) (ms : List ℕ) where
     -- each number is below n
     pub number_below : (i : ℕ) → i < n → get_or ms i 0 < n
     unfolding new_number
-    number_below i l = ltb_true (get_or ms i 0) n (and_left (ltb (get_or ms i 0) n) (not (among i ms (get_or ms i 0))) (each i l))
+    number_below i l = ltb-true (get_or ms i 0) n (and_left (ltb (get_or ms i 0) n) (not (among i ms (get_or ms i 0))) (each i l))
 
     -- no two are equal
     pub numbers_differ : (i j : ℕ) → i < n → j < i → get_or ms j 0 ≢ get_or ms i 0

@@ -4,6 +4,8 @@
 //
 // Rows and vacuum are lent as to the calls of `majorana`; a map is n numbers, a permutation of 0 to n - 1.
 
+#![tactic(auto)]
+
 mod lent;
 mod order;
 

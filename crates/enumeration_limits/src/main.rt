@@ -1,6 +1,8 @@
 // Runs mode enumeration at the limits of what it takes, and writes a line for each call: the number handed back and then every word of the outputs and of the room. Each
 // held 7 before, and is one longer than needed, or as its case says one too short.
 
+#![tactic(auto)]
+
 ghost use Rattle.std.specs.Prelude.{◌<◌, ◌≤◌, length};
 
 fn wide(x: u8) -> u64 {

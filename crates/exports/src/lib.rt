@@ -3,6 +3,8 @@
 // Each exported function hands its arguments to the call behind it and the numbers of its answer back, and promises what that call promises. A slice comes as a
 // pointer and then a length.
 
+#![tactic(auto)]
+
 mod flags; // flags.rt: which slots of a flatpack are filled, from bytes
 mod told; // told.rt: answers as structs of numbers
 

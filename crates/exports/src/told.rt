@@ -12,7 +12,7 @@ use trees::Named;
 
 // The number of an answer, and the pair of 10; 0 and 0 in every other answer.
 #[repr(C)]
-#[derive(Drop)]
+#[derive(Clone, Copy)]
 pub struct RopethistleAnswer {
     pub number: usize,
     pub first: usize,
@@ -21,7 +21,7 @@ pub struct RopethistleAnswer {
 
 // The number of an answer, and the phase of a state; 0 unless it is done.
 #[repr(C)]
-#[derive(Drop)]
+#[derive(Clone, Copy)]
 pub struct RopethistlePhase {
     pub number: usize,
     pub phase: usize,
@@ -29,7 +29,7 @@ pub struct RopethistlePhase {
 
 // The number of an answer, the phase of the product of two rows, and whether the rows commute (1 or 0); 0 and 0 unless it is done.
 #[repr(C)]
-#[derive(Drop)]
+#[derive(Clone, Copy)]
 pub struct RopethistleMultiplied {
     pub number: usize,
     pub phase: usize,
@@ -38,7 +38,7 @@ pub struct RopethistleMultiplied {
 
 // The number of an answer, the phase of a product, and its coefficient; 0, 0 and 0 unless it is done.
 #[repr(C)]
-#[derive(Drop)]
+#[derive(Clone, Copy)]
 pub struct RopethistleProduct {
     pub number: usize,
     pub phase: usize,
@@ -48,7 +48,7 @@ pub struct RopethistleProduct {
 
 // The same with one number, marked real (0) or imaginary (1); real 0 unless it is done.
 #[repr(C)]
-#[derive(Drop)]
+#[derive(Clone, Copy)]
 pub struct RopethistleRealProduct {
     pub number: usize,
     pub phase: usize,

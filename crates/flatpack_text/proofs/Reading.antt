@@ -7,7 +7,7 @@ use mathlib.Core.List.{List, [], ◌∷◌, ◌++◌, append-nil, append_assoc}
 use mathlib.Core.Bool.{Bool, true, false, cond}
 use lib.Dec.{eqb, ltb}
 use lib.ListN.{length, get_or, take, drop, length-append, drop_of_length-le}
-use borrow.Author.Tests.{eqb-true, ltb_true, ltb-false, lt-ltb, le-ltb}
+use borrow.Author.Tests.{eqb-true, ltb-true, ltb-false, lt-ltb, le-ltb}
 use Rattle.dense_block.specs.Words.{copied}
 use Rattle.flatpack_text.specs.declared.read.State.{State}
 use Rattle.flatpack_text.specs.declared.read.Text.{Text}
@@ -52,7 +52,7 @@ unfolding more
 more_min n = go (ltb (min n most) most) refl
   where
     go : (b : Bool) → ltb (min n most) most ≡ b → cond b (min n most + 1) (min n most) ≡ min (suc n) most
-    go true e = let l = ltb_true (min n most) most e in omega arith
+    go true e = let l = ltb-true (min n most) most e in omega arith
     go false e = let l = ltb-false (min n most) most e in omega arith
 
 -- ---- one byte more
@@ -143,7 +143,7 @@ entered_more d es e = go (ltb (min (length es) most) 256) refl ∙ table_more d 
     go : (b : Bool) → ltb (min (length es) most) 256 ≡ b
         → cond b (sets D (4 * min (length es) most) (numbers_of (e ∷ []))) D ≡ cond (ltb (length es) 256) (sets D (4 * length es) (numbers_of (e ∷ []))) D
     go true h =
-        let l = ltb_true (min (length es) most) 256 h in
+        let l = ltb-true (min (length es) most) 256 h in
         let k : min (length es) most ≡ length es = omega arith in
         let m : length es < 256 = omega arith in
         rw (lt-ltb (length es) 256 m, k)

@@ -8,7 +8,7 @@ use mathlib.Core.Bool.{Bool, true, false, cond}
 use lib.Dec.{ltb}
 use lib.ListN.{length, set, take, length-append}
 use lib.Seq.{sets, take_all, take-append-le}
-use borrow.Author.Tests.{ltb_true, ltb-false}
+use borrow.Author.Tests.{ltb-true, ltb-false}
 use Rattle.dense_block.specs.Words.{copied}
 use Rattle.flatpack_text.specs.Text.{Entry}
 use Rattle.flatpack_text.specs.Machine.{slot_number, numbers_of}
@@ -46,7 +46,7 @@ table_more d es e = go (ltb (length es) 256) refl
         → cond b (sets (copied d (numbers_of (take 256 es))) (4 * length es) (numbers_of (e ∷ []))) (copied d (numbers_of (take 256 es)))
         ≡ copied d (numbers_of (take 256 (es ++ (e ∷ []))))
     go true h =
-        let l = ltb_true (length es) 256 h in
+        let l = ltb-true (length es) 256 h in
         let k : length (es ++ (e ∷ [])) ≤ 256 = omega (arith, length-append es (e ∷ [])) in
         rw (take_all 256 es (omega arith), take_all 256 (es ++ (e ∷ [])) k, numbers_more es e)
         (sym (copied_more d (numbers_of es) (numbers_of (e ∷ [])) ∙ ap (λ (n : ℕ). sets (copied d (numbers_of es)) n (numbers_of (e ∷ []))) (length_numbers es)))

@@ -12,7 +12,7 @@ ghost use Rattle.flatpack_text.specs.Calls.{Feeds, Finishes, Reads};
 use crate::puts::put;
 
 // What is read of a field.
-#[derive(Drop)]
+#[derive(Clone, Copy)]
 pub enum Field {
     // No byte yet.
     Nothing,
@@ -25,7 +25,7 @@ pub enum Field {
 }
 
 // What is read of a text: the entries of the whole lines, and the fields of the line that is not ended.
-#[derive(Drop)]
+#[derive(Clone, Copy)]
 pub struct State {
     // How many entries, counted as far as 1,000,000,000.
     pub entries: usize,
@@ -40,7 +40,7 @@ pub struct State {
 }
 
 // What a whole text is.
-#[derive(Drop)]
+#[derive(Clone, Copy)]
 pub enum Text {
     // Well formed, with this many entries.
     Entries(usize),

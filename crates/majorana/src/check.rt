@@ -16,7 +16,7 @@ use pauli::Phase;
 use refusal::{Answer, Refusal};
 
 // Two rows that commute, or none.
-#[derive(Drop)]
+#[derive(Clone, Copy)]
 pub enum Found {
     Pair(usize, usize),
     Nothing,

@@ -12,6 +12,8 @@
 // Lent to each call: X parts and Z parts of w = ceil(q/64) words a row, 2n·w words each, 2n phases, and strings of w words. Words past the lengths stated are not
 // looked at and stay. Each call tests its input itself, in the order 1, 2, 17 and then its task's own.
 
+#![tactic(auto)]
+
 mod check;
 mod coding;
 mod mode;
@@ -30,7 +32,7 @@ use pauli::Phase;
 use refusal::{Answer, Refusal};
 
 // The phase of an encoded list, or why there is none.
-#[derive(Drop)]
+#[derive(Clone, Copy)]
 pub enum Encoded {
     Done(Phase),
     Refused(Refusal),

@@ -5,7 +5,7 @@ ghost use Rattle.dense_block.specs.Words.{xors};
 ghost use Rattle.majorana.specs.Walks.{Level, Walked, paired_by, seen_by, empty_by};
 
 // What a walk gathers: `apart` is 0 exactly if the X parts agree; `first` is the fold of the Z part z0 with the state, and `both` that of z0 and z1.
-#[derive(Drop)]
+#[derive(Clone, Copy)]
 pub struct Walk {
     pub apart: u64,
     pub first: u64,

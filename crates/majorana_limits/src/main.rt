@@ -1,6 +1,8 @@
 // Runs the vacuum check, encoding and decoding at the limits of what they take, and writes a line for each call: the number handed back, an encoding's phase, and
 // all five words of the buffer, which held 7 before. The buffer is lent whole or, as its case says, one word short.
 
+#![tactic(auto)]
+
 ghost use Rattle.std.specs.Prelude.{◌≤◌, length};
 
 use majorana::Encoded;

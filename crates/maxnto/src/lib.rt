@@ -2,6 +2,8 @@
 //
 //   maxnto   writes the X parts, the Z parts and the phases of the rows
 
+#![tactic(auto)]
+
 ghost use Rattle.std.specs.Prelude.{◌≡◌, ◌-◌, ◌*◌, ◌^◌, ◌<◌, ◌≤◌, [], ◌∷◌, length};
 ghost use Rattle.refusal.specs.Table.{◌of◌, short};
 ghost use Rattle.dense_block.specs.Words.{words_for, words_of};

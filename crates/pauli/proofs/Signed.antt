@@ -3,7 +3,7 @@ use Prim.Native.Nat.{ℕ, zero, suc, ◌+◌, ◌-◌, ◌/◌, ◌%◌, ◌≤�
 use native.Mathlib.Omega.{arith}
 use mathlib.Core.Path.{◌≡◌, refl}
 use mathlib.Core.Bool.{Bool, true, false, cond}
-use borrow.Author.Tests.{ltb_true, ltb-false}
+use borrow.Author.Tests.{ltb-true, ltb-false}
 use lib.Dec.{ltb}
 use lib.IntN.{ℤ, pos, negsuc, neg_ℤ, sub_ℕ, ◌+ℤ◌, ◌-ℤ◌}
 use lib.Signed.{mag, quot_z, rem_z}
@@ -77,7 +77,7 @@ letter_power_back p zero = omega arith
 letter_power_back p (suc ys) = go (ltb p (suc ys)) refl
   where
     go : (t : Bool) → ltb p (suc ys) ≡ t → (mod_four (cond t (negsuc (suc ys - suc p)) (pos (p - suc ys))) + suc ys) % 4 ≡ p % 4
-    go true e = omega (arith, ltb_true p (suc ys) e)
+    go true e = omega (arith, ltb-true p (suc ys) e)
     go false e = omega (arith, ltb-false p (suc ys) e)
 
 letter_power_lt : (p ys : ℕ) → letter_power p ys < 4

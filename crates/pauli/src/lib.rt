@@ -6,6 +6,9 @@
 //   letter_power    the letter power of a row
 //   meet            the phase of the product of two rows, and whether they commute
 //   multiply        the product of two rows
+
+#![tactic(auto)]
+
 ghost use Rattle.std.specs.Prelude.{◌≡◌, ◌&&◌, ◌||◌, ◌+◌, ◌*◌, ◌%◌, ◌<◌, [], ◌∷◌, pos, ◌-ℤ◌, length};
 ghost use Rattle.refusal.specs.Table.{◌of◌, short};
 ghost use Rattle.std.specs.Int.Signed.{mag, rem_z};
@@ -17,7 +20,7 @@ ghost use Rattle.pauli.specs.Phases.{mod_four, letter_power, row_power};
 use refusal::Refusal;
 
 // i to a power. The methods count powers modulo 4; a row's phase above 3 is refused by the calls that take rows.
-#[derive(Drop)]
+#[derive(Clone, Copy)]
 pub struct Phase {
     pub power: u8,
 }
@@ -87,7 +90,7 @@ fn never_negative(r: i32) -> u8
 }
 
 // A complex number: two f64 parts.
-#[derive(Drop)]
+#[derive(Clone, Copy)]
 pub struct Coefficient {
     pub re: f64,
     pub im: f64,
@@ -136,7 +139,7 @@ pub fn finite(x: f64) -> bool
 }
 
 // A number marked real or imaginary.
-#[derive(Drop)]
+#[derive(Clone, Copy)]
 pub enum Marked {
     Real(f64),
     Imag(f64),
@@ -162,7 +165,7 @@ impl Marked {
 }
 
 // The phase of the product of two rows, and whether they commute.
-#[derive(Drop)]
+#[derive(Clone, Copy)]
 pub struct Meeting {
     pub phase: Phase,
     pub commute: bool,
@@ -182,7 +185,7 @@ pub fn meet(left: Phase, lx: &[u64], lz: &[u64], right: Phase, rx: &[u64], rz: &
 }
 
 // The phase of the product and whether the two rows commute, or why there is no product.
-#[derive(Drop)]
+#[derive(Clone, Copy)]
 pub enum Product {
     Done(Phase, bool),
     Refused(Refusal),

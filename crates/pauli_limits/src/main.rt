@@ -2,6 +2,8 @@
 // word of the buffers, which held 7 before. Two columns need one word of each part, and 65 columns two; 256 columns are run
 // in `small_cases`.
 
+#![tactic(auto)]
+
 use pauli::{Phase, Product};
 
 fn wide(x: u8) -> u64 {

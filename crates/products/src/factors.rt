@@ -14,7 +14,7 @@ use pauli::Phase;
 use refusal::Refusal;
 
 // The phase of the product and its letter power, or why there is none.
-#[derive(Drop)]
+#[derive(Clone, Copy)]
 pub enum Made {
     Done(Phase, Phase),
     Refused(Refusal),

@@ -5,6 +5,8 @@
 //
 // Rows are lent as to the calls of `majorana`; at most 512 of them are multiplied, given by their numbers.
 
+#![tactic(auto)]
+
 mod factors;
 
 ghost use Rattle.majorana.specs.Sets.{given};
@@ -15,14 +17,14 @@ use pauli::{Coefficient, Marked, Phase};
 use refusal::Refusal;
 
 // The phase of a product and its coefficient, or why there is none.
-#[derive(Drop)]
+#[derive(Clone, Copy)]
 pub enum Multiplied {
     Done(Phase, Coefficient),
     Refused(Refusal),
 }
 
 // The same, with a real coefficient, which comes back marked.
-#[derive(Drop)]
+#[derive(Clone, Copy)]
 pub enum RealMultiplied {
     Done(Phase, Marked),
     Refused(Refusal),

@@ -7,7 +7,7 @@ use native.Mathlib.Omega.{arith}
 use mathlib.Core.Path.{◌≡◌, refl, sym, ap, ◌∙◌}
 use mathlib.Core.Logic.{◌⊎◌, inl, inr}
 use mathlib.Core.Bool.{Bool, true, false, cond, ◌&&◌, ◌||◌}
-use borrow.Author.Tests.{lt-ltb, ltb_true}
+use borrow.Author.Tests.{lt-ltb, ltb-true}
 use lib.Dec.{ltb}
 use Rattle.refusal.specs.Search.{some_below, all_below, found, none, or_else, least_below, Pair, pair, no_pair, first_pair}
 use Rattle.refusal.proofs.Bools.{and_left, and_right, both, never}
@@ -257,7 +257,7 @@ module _ (n : ℕ) (test : ℕ → ℕ → Bool) where
   not_above i j h = go (ltb i j) refl
     where
       go : (b : Bool) → ltb i j ≡ b → (b && test i j) ≡ false
-      go true e = h (ltb_true i j e)
+      go true e = h (ltb-true i j e)
       go false e = refl
 
   pub pair_of_lem : (i j : ℕ) → i < j → j < n → test i j ≡ true
@@ -319,7 +319,7 @@ module _ (n : ℕ) (test : ℕ → ℕ → Bool) where
 
               here : Is-first n test k l
               here = record {
-                above = ltb_true k l (and_left (ltb k l) (test k l) r.passes);
+                above = ltb-true k l (and_left (ltb k l) (test k l) r.passes);
                 low = r.low;
                 passes = and_right (ltb k l) (test k l) r.passes;
                 first = before;

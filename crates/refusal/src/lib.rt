@@ -3,11 +3,13 @@
 //   Refusal   why a call refused: a case for each number, 10 with its pair; `number` hands the number back
 //   Answer    done, or refused: the answer of every call that hands back nothing more; `number` is 0 for done
 
+#![tactic(auto)]
+
 ghost use Rattle.std.specs.Prelude.{◌≡◌};
 ghost use Rattle.refusal.specs.Numbers.{paper, answered};
 
 // A case's number is the one that stands above it.
-#[derive(Drop)]
+#[derive(Clone, Copy)]
 pub enum Refusal {
     // 1: modes 0 or above 256, qubits 0 or above 256, a flatpack qubit above 255, a product of more than 512 rows.
     Size,
@@ -47,7 +49,7 @@ pub enum Refusal {
     OddModes,
 }
 
-#[derive(Drop)]
+#[derive(Clone, Copy)]
 pub enum Answer {
     Done,
     Refused(Refusal),

@@ -5,6 +5,8 @@
 //   0 determine_vacuum_state, 1 new, 2 check_rows, 3 try_encode, 4 decode_zbasis_state, 5 apply_mode_enumeration, 6 product_real, 7 maxnto,
 //   8 from_name, 9 from_flatpack, a from_flatpack_naive, b multiply (two rows; modes is 1, and not looked at)
 
+#![tactic(auto)]
+
 mod calls; // calls.rt: each call, and its answer written
 mod text; // text.rt: numbers read and written
 

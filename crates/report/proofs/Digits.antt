@@ -6,7 +6,7 @@ use mathlib.Core.List.{List, [], ◌∷◌, ◌++◌}
 use mathlib.Core.Bool.{Bool, true, false}
 use lib.Dec.{ltb}
 use lib.ListN.{length, length-append}
-use borrow.Author.Tests.{ltb_true, ltb-false, lt-ltb, le-ltb, le-leb, ne_eqb}
+use borrow.Author.Tests.{ltb-true, ltb-false, lt-ltb, le-ltb, le-leb, ne_eqb}
 use Rattle.flatpack_text.specs.declared.read.Field.{Field}
 use Rattle.flatpack_text.specs.declared.read.Field.TheVariants.{Number}
 use Rattle.flatpack_text.specs.Text.{is_digit, field_of}
@@ -29,7 +29,7 @@ any_bound (suc j) zero n h l = absurd (omega arith)
 any_bound (suc j) (suc k) n h l = go (ltb n 10) refl (any_bound j k (n / 10))
   where
     go : (b : Bool) → ltb n 10 ≡ b → (n / 10 < j → n / 10 < k → digits_in j (n / 10) ≡ digits_in k (n / 10)) → digits_in (suc j) n ≡ digits_in (suc k) n
-    go true e ih = let s = ltb_true n 10 e in in_small j n s ∙ sym (in_small k n s)
+    go true e ih = let s = ltb-true n 10 e in in_small j n s ∙ sym (in_small k n s)
     go false e ih =
         let s = ltb-false n 10 e in
         in_large j n s ∙ ap (λ (l : List ℕ). l ++ ((48 + n % 10) ∷ [])) (ih (omega arith) (omega arith)) ∙ sym (in_large k n s)
@@ -52,7 +52,7 @@ digits_few zero n h = rw (digits_small n h) (omega arith)
 digits_few (suc k) n h = go (ltb n 10) refl (digits_few k (n / 10))
   where
     go : (b : Bool) → ltb n 10 ≡ b → (n / 10 < 10 ^ suc k → length (digits_of (n / 10)) ≤ suc k) → length (digits_of n) ≤ suc (suc k)
-    go true e ih = rw (digits_small n (ltb_true n 10 e)) (omega arith)
+    go true e ih = rw (digits_small n (ltb-true n 10 e)) (omega arith)
     go false e ih =
         let r = ih (omega arith) in
         let l = length_large n (ltb-false n 10 e) in
@@ -80,7 +80,7 @@ in_read zero n h l = absurd (omega arith)
 in_read (suc k) n h l = go (ltb n 10) refl (in_read k (n / 10))
   where
     go : (b : Bool) → ltb n 10 ≡ b → (n / 10 < k → n / 10 ≤ 65535 → field_of (digits_in k (n / 10)) ≡ Number (n / 10)) → field_of (digits_in (suc k) n) ≡ Number n
-    go true e ih = let s = ltb_true n 10 e in ap field_of (in_small k n s) ∙ first_read n s
+    go true e ih = let s = ltb-true n 10 e in ap field_of (in_small k n s) ∙ first_read n s
     go false e ih =
         let s = ltb-false n 10 e in
         let f : field_of (digits_in k (n / 10)) ≡ Number (n / 10) = ih (omega arith) (omega arith) in

@@ -8,7 +8,7 @@ use mathlib.Core.Bool.{Bool, true, false, cond, ◌&&◌, ◌||◌}
 use lib.Dec.{eqb, ltb, leb}
 use lib.ListN.{length, get_or, take, drop, replicate}
 use lib.Seq.{take_all}
-use borrow.Author.Tests.{leb-true, ltb_true, ltb-false, le-leb, lt-ltb, le-ltb, ne_eqb}
+use borrow.Author.Tests.{leb-true, ltb-true, ltb-false, le-leb, lt-ltb, le-ltb, ne_eqb}
 use Rattle.refusal.specs.declared.Answer.{Answer}
 use Rattle.refusal.specs.declared.Answer.TheVariants.{Done, Refused}
 use Rattle.refusal.specs.declared.Refusal.{Refusal}
@@ -42,7 +42,7 @@ unfolding outside
 outside_min p = go (ltb p 257) refl
   where
     go : (b : Bool) → ltb p 257 ≡ b → (eqb (min p 257) 0 || ltb 256 (min p 257)) ≡ (eqb p 0 || ltb 256 p)
-    go true e = let h = ltb_true p 257 e in let m : min p 257 ≡ p = omega arith in rw m
+    go true e = let h = ltb-true p 257 e in let m : min p 257 ≡ p = omega arith in rw m
     go false e =
         let h = ltb-false p 257 e in
         let m : min p 257 ≡ 257 = omega arith in
@@ -283,7 +283,7 @@ module _ (es : List Entry) (d table out : List ℕ) (room : 1024 ≤ length d) (
     where
       go : (b : Bool) → ltb 256 (length es) ≡ b → Whole (answer_text es) out r.length after
       go true e =
-          let h = ltb_true 256 (length es) e in
+          let h = ltb-true 256 (length es) e in
           join_whole (answer_text es) out s.0 s.1 (many_whole es (min (length es) most) table (omega arith) h out wide (input_of (min (length es) most) table).q (rows true (tree_of (input_of (min (length es) most) table))).row)
       go false e = let h = ltb-false 256 (length es) e in few_output h (min (length es) most) (omega arith) s
 
@@ -306,7 +306,7 @@ answer_verdict : (es : List Entry) (d table : List ℕ) → 1024 ≤ length d �
 answer_verdict es d table room holds = go (ltb 256 (length es)) refl
   where
     go : (b : Bool) → ltb 256 (length es) ≡ b → answer (input_of (min (length es) most) table) ≡ verdict es
-    go true e = many_verdict es (min (length es) most) table (let h = ltb_true 256 (length es) e in omega arith) (ltb_true 256 (length es) e)
+    go true e = many_verdict es (min (length es) most) table (let h = ltb-true 256 (length es) e in omega arith) (ltb-true 256 (length es) e)
     go false e =
         let few = ltb-false 256 (length es) e in
         let all : table ≡ copied d (numbers_of es) = holds ∙ ap (λ (l : List Entry). copied d (numbers_of l)) (take_all 256 es few) in

@@ -7,7 +7,7 @@ use mathlib.Core.Bool.{Bool, true, false, cond, not}
 use lib.Dec.{eqb, ltb}
 use lib.ListN.{length, get_or, set, replicate, length-replicate, get_or-eq_default}
 use lib.Seq.{get_or-set_same, get_or-set_other}
-use borrow.Author.Tests.{eqb-true, eqb-false, ltb_true, ltb-false, ne_eqb, eq-eqb}
+use borrow.Author.Tests.{eqb-true, eqb-false, ltb-true, ltb-false, ne_eqb, eq-eqb}
 use Rattle.dense_block.specs.Words.{copied}
 use Rattle.trees.specs.declared.Slot.TheVariants.{Blank, Number}
 use Rattle.tree_sizes.specs.Sizes.{qubit_at}
@@ -94,7 +94,7 @@ module _ (es : List Entry) (d table : List ℕ) (few : length es ≤ 256) (room 
     where
       go : (b : Bool) → ltb j (length es) ≡ b → qubit_at plain j ≡ (entry_at es j).qubit
       go true e =
-          let h = ltb_true j (length es) e in
+          let h = ltb-true j (length es) e in
           let z : 4 * j % 4 ≡ 0 = omega arith in
           placed_in (plain_at table) (4 * length es) (replicate 1024 0) (4 * j) 0 (omega arith) (omega (arith, length-replicate {A = ℕ} 1024 0))
           ∙ rw (eq-eqb (4 * j % 4) 0 z) (table_at (4 * j) (omega arith) ∙ qubit_number es j)
@@ -124,7 +124,7 @@ module _ (es : List Entry) (d table : List ℕ) (few : length es ≤ 256) (room 
 
       go : (b : Bool) → ltb k (3 * length es) ≡ b → slot_at plain full k ≡ flat_slot (slot_in (entry_at es (k / 3)) (k % 3))
       go true e =
-          let h = ltb_true k (3 * length es) e in
+          let h = ltb-true k (3 * length es) e in
           let z : a % 4 ≡ 0 → ⊥ = λ e. omega arith in
           let f : get_or full k false ≡ not (eqb (get_or table a 0) 0) = placed_in (filled_at table) (3 * length es) (replicate 768 false) k false h (omega (arith, length-replicate 768 false)) in
           let p : get_or plain a 0 ≡ get_or table a 0 - 1 =

@@ -10,7 +10,7 @@ use mathlib.Core.Bool.{Bool, true, false, cond, ◌&&◌, ◌||◌}
 use lib.Dec.{eqb, ltb, leb}
 use lib.ListN.{length, take}
 use lib.Seq.{take_all}
-use borrow.Author.Tests.{ltb_true, ltb-false, lt-ltb, le-ltb, leb-false, lt-leb, ne_eqb}
+use borrow.Author.Tests.{ltb-true, ltb-false, lt-ltb, le-ltb, leb-false, lt-leb, ne_eqb}
 use Rattle.refusal.specs.Numbers.{Paper}
 use Rattle.refusal.specs.Search.{Least, found, none, least_below}
 use Rattle.refusal.specs.Table.{◌gives◌, first_of, ◌of◌, short}
@@ -199,7 +199,7 @@ entries_site : (es : List Entry) (d table : List ℕ) → 1024 ≤ length d → 
 entries_site es d table room holds = go (ltb 256 (length es)) refl
   where
     go : (b : Bool) → ltb 256 (length es) ≡ b → SiteOf (well_formed es) (located_at (fault_at (min (length es) most) table))
-    go true e = let h = ltb_true 256 (length es) e in many_site es (min (length es) most) table (omega arith) h
+    go true e = let h = ltb-true 256 (length es) e in many_site es (min (length es) most) table (omega arith) h
     go false e =
         let few = ltb-false 256 (length es) e in
         let count : min (length es) most ≡ length es = omega arith in

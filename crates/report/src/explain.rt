@@ -8,7 +8,7 @@ use crate::pieces::{put_number, put_word};
 use refusal::Refusal;
 
 // What of a line is at fault: the line, or its X, Y or Z slot.
-#[derive(Drop)]
+#[derive(Clone, Copy)]
 pub enum Spot {
     Line,
     X,

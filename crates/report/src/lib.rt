@@ -5,6 +5,8 @@
 //   locate    where in the text it was found: line and slot
 //   write     the lines of a report
 
+#![tactic(auto)]
+
 pub mod explain;
 pub mod locate;
 mod pieces; // pieces.rt: numbers and words in a buffer

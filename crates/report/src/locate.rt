@@ -13,7 +13,7 @@ use flatpack_text::{flatpack, read};
 use ternarytree::Place;
 
 // A line, 0 if it is not known where, and what of it.
-#[derive(Drop)]
+#[derive(Clone, Copy)]
 pub struct Site {
     pub line: usize,
     pub spot: Spot,

@@ -12,7 +12,7 @@ use flatpack_text::read::{State, Text};
 use flatpack_text::{flatpack, read};
 use refusal::{Answer, Refusal};
 
-#[derive(Drop)]
+#[derive(Clone, Copy)]
 pub struct Reply {
     pub answer: Answer,
     // The line that is no entry if the text is not well formed, and else 0.

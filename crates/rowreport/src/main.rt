@@ -1,6 +1,8 @@
 // Reads flatpack text with leaves from standard input to its end and writes the report of its rows, or `refused`, a tab and the number of the refusal. What a refusal means,
 // and where it was found if that is known, goes to standard error. Nothing is written before the answer is known.
 
+#![tactic(auto)]
+
 ghost use Rattle.std.specs.Prelude.{◌≡◌};
 ghost use Rattle.rowreport.specs.Reads.{Turned, Gathered};
 
@@ -8,7 +10,7 @@ use libc::{STDERR_FILENO, STDIN_FILENO, STDOUT_FILENO};
 use rowreport_core::Reading;
 
 // What a read of standard input comes to.
-#[derive(Drop)]
+#[derive(Clone, Copy)]
 enum Step {
     // A chunk was taken.
     More,
@@ -18,14 +20,14 @@ enum Step {
 }
 
 // What is held after a read.
-#[derive(Drop)]
+#[derive(Clone, Copy)]
 struct Turn {
     reading: Reading,
     step: Step,
 }
 
 // What is held at the end, and how many chunks were taken; or the input could not be read to its end.
-#[derive(Drop)]
+#[derive(Clone, Copy)]
 struct Whole {
     reading: Reading,
     chunks: u64,

@@ -4,6 +4,8 @@
 //   take     a chunk more
 //   texts    at the end of the text: what goes to standard output, and what to standard error
 
+#![tactic(auto)]
+
 ghost use Rattle.std.specs.Prelude.{◌≡◌};
 ghost use Rattle.flatpack_text.specs.Calls.{Feeds};
 ghost use Rattle.rowreport_core.specs.Program.{begun};
@@ -15,7 +17,7 @@ use refusal::Answer;
 use report::{explain, locate, reply};
 
 // What is held of a text.
-#[derive(Drop)]
+#[derive(Clone, Copy)]
 pub struct Reading {
     // After the bytes so far.
     pub state: State,
@@ -24,7 +26,7 @@ pub struct Reading {
 }
 
 // How many bytes of each buffer are written.
-#[derive(Drop)]
+#[derive(Clone, Copy)]
 pub struct Lengths {
     // For standard output.
     pub output: usize,

@@ -1,6 +1,8 @@
 // Feeds texts to the reader as rowreport does, in chunks of a few bytes, and writes a line for each: what it is, the number of the answer, the line at fault and the bytes
 // that are written. Long texts, at the limits of what is taken, and a text for each way not to be well formed.
 
+#![tactic(auto)]
+
 ghost use Rattle.std.specs.Prelude.{◌≤◌, ◌<◌};
 
 use flatpack_text::read;

@@ -1,6 +1,8 @@
 // Runs the small cases worked by hand through the calls, and writes a line for each: the number handed back and then what was written. proofs/Cases.antt proves those
 // of them that are proved, at the contracts of the calls. Bits are written as numbers, column 0 lowest.
 
+#![tactic(auto)]
+
 mod pairs; // pairs.rt: the product of two rows, and whether they commute
 
 use majorana::Encoded;

@@ -6,7 +6,7 @@ use mathlib.Core.Path.{◌≡◌, refl, sym, ◌∙◌}
 use mathlib.Core.Logic.{◌≢◌}
 use mathlib.Core.Bool.{Bool, true, false, ◌||◌}
 use mathlib.Core.List.{List, [], ◌∷◌}
-use borrow.Author.Tests.{ltb_true, leb-false, ne_eqb}
+use borrow.Author.Tests.{ltb-true, leb-false, ne_eqb}
 use lib.Dec.{leb, ltb}
 use lib.ListN.{length}
 use Rattle.refusal.specs.declared.Answer.{Answer}
@@ -74,7 +74,7 @@ late_past ((no_pair names k) ∷ rules) h new old = late_past rules h.1 new old
 
 tree_late : (leaves : Bool) (t : Tree) → Late (tree_checks leaves t)
 tree_late leaves t =
-    (λ e. omega arith, (λ e. let l = ltb_true 0 (first_fault t) e in omega (arith, (fault_number t (λ z. omega arith)).0), (λ e. omega arith, (λ e. omega arith, (omega arith, (λ e. omega arith, (λ e. omega arith, tt)))))))
+    (λ e. omega arith, (λ e. let l = ltb-true 0 (first_fault t) e in omega (arith, (fault_number t (λ z. omega arith)).0), (λ e. omega arith, (λ e. omega arith, (omega arith, (λ e. omega arith, (λ e. omega arith, tt)))))))
 
 -- ---- flatpacks
 

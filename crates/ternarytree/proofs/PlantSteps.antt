@@ -6,7 +6,7 @@ use mathlib.Core.Path.{◌≡◌, refl, sym, ap, ◌∙◌}
 use mathlib.Core.Logic.{◌≢◌}
 use mathlib.Core.Bool.{Bool, true, false, ◌&&◌}
 use mathlib.Core.List.{List}
-use borrow.Author.Tests.{lt-ltb, ltb_true, eq-eqb, ne_eqb, eqb-true}
+use borrow.Author.Tests.{lt-ltb, ltb-true, eq-eqb, ne_eqb, eqb-true}
 use lib.Dec.{eqb, ltb}
 use lib.ListN.{length, set, length-set}
 use Rattle.refusal.specs.Search.{Least, found, none, least_below}
@@ -54,7 +54,7 @@ module _ (stands : ℕ → ℕ) (g : Growing stands) (n : ℕ) where
         p.nodes (stands k) slot_low
         ∙ ap code (least_none k (holds (stands k)) (λ j h. is_false _ (λ q. omega (
           arith,
-          g.alone j k (ltb_true 0 j (and_left (ltb 0 j) (eqb (stands j) (stands k)) q)) p.some_left.0 (eqb-true (stands j) (stands k) (and_right (ltb 0 j) (eqb (stands j) (stands k)) q)),
+          g.alone j k (ltb-true 0 j (and_left (ltb 0 j) (eqb (stands j) (stands k)) q)) p.some_left.0 (eqb-true (stands j) (stands k) (and_right (ltb 0 j) (eqb (stands j) (stands k)) q)),
         ))))
 
     next : n ≤ 256 → Planting (set cs k k) (set ps k (stands k + 1)) (set ss (stands k) (k + 1)) (k + 1)

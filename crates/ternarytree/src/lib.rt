@@ -7,6 +7,8 @@
 //
 // Trees, their rows and the theorems on them are in the crate `trees`, the tests of sizes and lengths in the crate `tree_sizes`.
 
+#![tactic(auto)]
+
 mod building; // building.rt: from tables to rows, and from flatpacks and names to tables
 mod chains; // chains.rt: naive trees, the slots of the leaves
 mod climbing; // climbing.rt: climbs to the root, and the tests of a whole tree
@@ -23,7 +25,7 @@ use refusal::{Answer, Refusal};
 use trees::Named;
 
 // A slot of a flatpack, by its number: slot 3i + l is the X, Y or Z slot of entry i, for l = 0, 1 or 2.
-#[derive(Drop)]
+#[derive(Clone, Copy)]
 pub enum Place {
     Nowhere,
     Slot(usize),

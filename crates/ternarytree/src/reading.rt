@@ -182,7 +182,7 @@ pub fn place(
 }
 
 // The number of the first fault of entries and slots, or 0, and the slot that has it; 7 is no slot's.
-#[derive(Drop)]
+#[derive(Clone, Copy)]
 pub struct Fault {
     pub number: usize,
     pub place: Place,

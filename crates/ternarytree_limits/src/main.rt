@@ -1,6 +1,8 @@
 // Runs the three builders of trees at the limits of what they take, and writes a line for each call: the number handed back, and what is left of the X parts, the Z
 // parts, the phases, the vacuum and the room, all of which held 7 before. Of a named tree it writes how many of them are 0 and how many are still 7.
 
+#![tactic(auto)]
+
 mod tell; // tell.rt: what is written
 
 ghost use Rattle.std.specs.Prelude.{◌≤◌, length};

@@ -7,6 +7,8 @@
 //
 // Entry i of a flatpack is the numbers 4i (its qubit), 4i + 1, 4i + 2 and 4i + 3 (its X, Y and Z slots) of entries.
 
+#![tactic(auto)]
+
 ghost use Rattle.std.specs.Prelude.{◌≡◌, ◌∷◌, ◌||◌, ltb, ◌*◌, min};
 ghost use Rattle.refusal.specs.Table.{◌of◌};
 ghost use Rattle.tree_sizes.specs.Sizes.{outside, qubit_at, reaches, outputs_lent, many_or_short, unreadable};

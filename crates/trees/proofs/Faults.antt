@@ -2,7 +2,7 @@
 use Prim.Native.Nat.{ℕ, ◌*◌}
 use native.Mathlib.Omega.{arith}
 use mathlib.Core.Path.{◌≡◌}
-use borrow.Author.Tests.{ltb_true, ltb-false}
+use borrow.Author.Tests.{ltb-true, ltb-false}
 use lib.Dec.{ltb}
 use Rattle.refusal.specs.Search.{found, least_below}
 use Rattle.refusal.proofs.Searches.{least_found}
@@ -14,7 +14,7 @@ first_at_fault t k h =
     let r = least_found (3 * t.n) (λ k. ltb 0 (fault t k)) k h in
     record {
       slot = r.low;
-      at_fault = λ e. omega (arith, ltb_true 0 (fault t k) r.passes);
+      at_fault = λ e. omega (arith, ltb-true 0 (fault t k) r.passes);
       before = λ j l. let z = ltb-false 0 (fault t j) (r.first j l) in omega arith;
       number = rw h;
     }

@@ -5,7 +5,7 @@ use native.Mathlib.Omega.{arith}
 use mathlib.Core.Path.{◌≡◌, refl, ap, ◌∙◌, sym}
 use mathlib.Core.Bool.{false, cond, not, ◌&&◌}
 use lib.Dec.{eqb, ltb}
-use borrow.Author.Tests.{ltb_true, lt-ltb, le-ltb, eqb-true, eq-eqb, ne_eqb}
+use borrow.Author.Tests.{ltb-true, lt-ltb, le-ltb, eqb-true, eq-eqb, ne_eqb}
 use Rattle.refusal.specs.Search.{Least, found, none, some_below, least_below}
 use Rattle.refusal.proofs.Bools.{and_left, and_right, both, is_false}
 use Rattle.refusal.proofs.Searches.{none_of, least_found, least_none}
@@ -28,7 +28,7 @@ module _ (stands : ℕ → ℕ) (g : Growing stands) (n : ℕ) where
   names : (k j : ℕ) → Names (grown stands n) k j → (j < n) × (0 < j) × (stands j ≡ k)
   names k j h =
       let r = least_found n (λ j. ltb 0 j && eqb (stands j) k) j (sym (node_of_named _) ∙ h) in
-      (r.low, ltb_true 0 j (and_left (ltb 0 j) _ r.passes), eqb-true (stands j) k (and_right (ltb 0 j) _ r.passes))
+      (r.low, ltb-true 0 j (and_left (ltb 0 j) _ r.passes), eqb-true (stands j) k (and_right (ltb 0 j) _ r.passes))
 
   pub closed : Closed (grown stands n)
   unfolding Closed
@@ -37,7 +37,7 @@ module _ (stands : ℕ → ℕ) (g : Growing stands) (n : ℕ) where
   stands_names : (j : ℕ) → 0 < j → j < n → Names (grown stands n) (stands j) j
   stands_names j h l =
       let (i, e, low, q) = found_some n (λ i. ltb 0 i && eqb (stands i) (stands j)) j l (both (lt-ltb 0 j h) (eq-eqb (stands j) (stands j) refl)) in
-      let same = g.alone i j (ltb_true 0 i (and_left (ltb 0 i) _ q)) h (eqb-true (stands i) (stands j) (and_right (ltb 0 i) _ q)) in
+      let same = g.alone i j (ltb-true 0 i (and_left (ltb 0 i) _ q)) h (eqb-true (stands i) (stands j) (and_right (ltb 0 i) _ q)) in
       node_of_named _ ∙ e ∙ ap found same
 
   -- ---- the parents

@@ -1,8 +1,10 @@
 // Ternary trees: what they are, what refuses them and what their rows are, in specs/; the theorems on them, in proofs/. There is no code here but what a slot holds, as it is in a flatpack and in
 // a tree, and the names of trees. The code is `ternarytree`'s.
 
+#![tactic(auto)]
+
 // What a slot of a tree holds.
-#[derive(Drop)]
+#[derive(Clone, Copy)]
 pub enum Child {
     Empty,
     Node(usize),
@@ -13,14 +15,14 @@ pub enum Child {
 }
 
 // A slot of a flatpack.
-#[derive(Drop)]
+#[derive(Clone, Copy)]
 pub enum Slot {
     Blank,
     Number(usize),
 }
 
 // The named trees.
-#[derive(Drop)]
+#[derive(Clone, Copy)]
 pub enum Named {
     JordanWigner,
     Parity,

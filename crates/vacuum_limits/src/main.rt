@@ -1,6 +1,8 @@
 // Runs the row check, vacuum solving, `new` and the products at the limits of what they take, and writes a line for each call: the number handed back, the pair that 10
 // carries, a product's phase, and every word of the buffers, which held 7 before. Jordan-Wigner on two modes needs one word of a vacuum, 8 of room, and 4 to solve in.
 
+#![tactic(auto)]
+
 use pauli::Coefficient;
 use products::{Multiplied, RealMultiplied};
 use refusal::{Answer, Refusal};
