@@ -10,51 +10,53 @@ fn wide(x: u8) -> u64 {
 }
 
 // Writes a blank and a number.
-fn next(k: u64) {
-    io::write_all(1, b" ");
-    io::print_decimal(1, k);
+fn next(rt: &impl Print, k: u64) -> io::Result<()> {
+    rt.write_all(b" ")?;
+    print!(rt; "{k}")
 }
 
 // Writes a name and the words of s, a blank before each.
-fn words(name: &[u8], s: &[u64]) {
-    io::write_all(1, name);
+fn words(rt: &impl Print, name: &[u8], s: &[u64]) -> io::Result<()> {
+    rt.write_all(name)?;
     let mut i = 0;
     while i < s.len() {
-        next(s[i]);
+        next(rt, s[i])?;
         i += 1;
     }
+    Ok(())
 }
 
 // The same of bytes.
-fn bytes(name: &[u8], s: &[u8]) {
-    io::write_all(1, name);
+fn bytes(rt: &impl Print, name: &[u8], s: &[u8]) -> io::Result<()> {
+    rt.write_all(name)?;
     let mut i = 0;
     while i < s.len() {
-        next(wide(s[i]));
+        next(rt, wide(s[i]))?;
         i += 1;
     }
+    Ok(())
 }
 
 // Starts a line with the case and the number handed back.
-fn head(case: &[u8], k: u8) {
-    io::write_all(1, case);
-    io::write_all(1, b": ");
-    io::print_decimal(1, wide(k));
+fn head(rt: &impl Print, case: &[u8], k: u8) -> io::Result<()> {
+    rt.write_all(case)?;
+    rt.write_all(b": ")?;
+    print!(rt; "{}", wide(k))
 }
 
 // Writes a line.
-fn line(case: &[u8], k: u8, ox: &[u64], oz: &[u64], ophases: &[u8], ovacuum: &[u64], room: &[u64]) {
-    head(case, k);
-    words(b", x", ox);
-    words(b", z", oz);
-    bytes(b", phases", ophases);
-    words(b", vacuum", ovacuum);
-    words(b", room", room);
-    io::write_all(1, b"\n");
+fn line(rt: &impl Print, case: &[u8], k: u8, ox: &[u64], oz: &[u64], ophases: &[u8], ovacuum: &[u64], room: &[u64]) -> io::Result<()> {
+    head(rt, case, k)?;
+    words(rt, b", x", ox)?;
+    words(rt, b", z", oz)?;
+    bytes(rt, b", phases", ophases)?;
+    words(rt, b", vacuum", ovacuum)?;
+    words(rt, b", room", room)?;
+    rt.write_all(b"\n")
 }
 
 // One call, with so many words or phases of each slice that is written.
-fn run(
+fn run(rt: &impl Print, 
     case: &[u8],
     modes: usize,
     qubits: usize,
@@ -68,7 +70,7 @@ fn run(
     np: usize,
     nv: usize,
     nr: usize,
-)
+) -> io::Result<()>
     requires { (nx ≤ 5) × (nz ≤ 5) × (np ≤ 5) × (nv ≤ 2) × (nr ≤ 9) }
 {
     let mut ox = [7u64; 5];
@@ -90,23 +92,23 @@ fn run(
         &mut ovacuum[..nv],
         &mut room[..nr],
     );
-    line(case, r.number(), &ox, &oz, &ophases, &ovacuum, &room);
+    line(rt, case, r.number(), &ox, &oz, &ophases, &ovacuum, &room)
 }
 
 // Jordan-Wigner on two modes, exchanged, with these numbers of modes and qubits.
-fn sized(case: &[u8], modes: usize, qubits: usize) {
+fn sized(rt: &impl Print, case: &[u8], modes: usize, qubits: usize) -> io::Result<()> {
     let x = [1u64, 1, 2, 2];
     let z = [0u64, 1, 1, 3];
     let phases = [0u8, 1, 0, 1];
     let vacuum = [0u64; 1];
     let map = [1usize, 0];
-    run(
+    run(rt, 
         case, modes, qubits, &x, &z, &phases, &vacuum, &map, 5, 5, 5, 2, 9,
-    );
+    )
 }
 
 // The same, with so many words, phases or numbers of each slice that is read.
-fn cut(case: &[u8], nx: usize, nz: usize, np: usize, nv: usize, nm: usize)
+fn cut(rt: &impl Print, case: &[u8], nx: usize, nz: usize, np: usize, nv: usize, nm: usize) -> io::Result<()>
     requires { (nx ≤ 4) × (nz ≤ 4) × (np ≤ 4) × (nv ≤ 1) × (nm ≤ 2) }
 {
     let x = [1u64, 1, 2, 2];
@@ -114,7 +116,7 @@ fn cut(case: &[u8], nx: usize, nz: usize, np: usize, nv: usize, nm: usize)
     let phases = [0u8, 1, 0, 1];
     let vacuum = [0u64; 1];
     let map = [1usize, 0];
-    run(
+    run(rt, 
         case,
         2,
         2,
@@ -128,11 +130,11 @@ fn cut(case: &[u8], nx: usize, nz: usize, np: usize, nv: usize, nm: usize)
         5,
         2,
         9,
-    );
+    )
 }
 
 // And of each that is written.
-fn cut_out(case: &[u8], nx: usize, nz: usize, np: usize, nv: usize, nr: usize)
+fn cut_out(rt: &impl Print, case: &[u8], nx: usize, nz: usize, np: usize, nv: usize, nr: usize) -> io::Result<()>
     requires { (nx ≤ 5) × (nz ≤ 5) × (np ≤ 5) × (nv ≤ 2) × (nr ≤ 9) }
 {
     let x = [1u64, 1, 2, 2];
@@ -140,19 +142,19 @@ fn cut_out(case: &[u8], nx: usize, nz: usize, np: usize, nv: usize, nr: usize)
     let phases = [0u8, 1, 0, 1];
     let vacuum = [0u64; 1];
     let map = [1usize, 0];
-    run(
+    run(rt, 
         case, 2, 2, &x, &z, &phases, &vacuum, &map, nx, nz, np, nv, nr,
-    );
+    )
 }
 
 // The same, with these in place of the last X part, the first Z part, the last phase, the vacuum and the map.
-fn changed(case: &[u8], last: u64, first: u64, p: u8, v: u64, m0: usize, m1: usize) {
+fn changed(rt: &impl Print, case: &[u8], last: u64, first: u64, p: u8, v: u64, m0: usize, m1: usize) -> io::Result<()> {
     let x = [1u64, 1, 2, last];
     let z = [first, 1, 1, 3];
     let phases = [0u8, 1, 0, p];
     let vacuum = [v; 1];
     let map = [m0, m1];
-    run(case, 2, 2, &x, &z, &phases, &vacuum, &map, 5, 5, 5, 2, 9);
+    run(rt, case, 2, 2, &x, &z, &phases, &vacuum, &map, 5, 5, 5, 2, 9)
 }
 
 // ---- 256 modes on 256 qubits: Jordan-Wigner, row k from column 256k of the block on
@@ -259,7 +261,7 @@ fn number_of(s: &[u64], v: u64) -> u64 {
 }
 
 // Writes how many rows moved, how many words are 5, as all were before, and how many words of the room are zero.
-fn summary(
+fn summary(rt: &impl Print, 
     x: &[u64],
     z: &[u64],
     phases: &[u8],
@@ -268,22 +270,22 @@ fn summary(
     ophases: &[u8],
     ovacuum: &[u64],
     room: &[u64],
-) {
-    io::write_all(1, b", rows moved");
-    next(moved(ox, x));
-    next(moved(oz, z));
-    next(moved_phases(ophases, phases));
-    words(b", vacuum", ovacuum);
-    io::write_all(1, b", words as before");
-    next(number_of(ox, 5));
-    next(number_of(oz, 5));
-    next(number_of(room, 5));
-    io::write_all(1, b", zero words of the room");
-    next(number_of(room, 0));
-    io::write_all(1, b"\n");
+) -> io::Result<()> {
+    rt.write_all(b", rows moved")?;
+    next(rt, moved(ox, x))?;
+    next(rt, moved(oz, z))?;
+    next(rt, moved_phases(ophases, phases))?;
+    words(rt, b", vacuum", ovacuum)?;
+    rt.write_all(b", words as before")?;
+    next(rt, number_of(ox, 5))?;
+    next(rt, number_of(oz, 5))?;
+    next(rt, number_of(room, 5))?;
+    rt.write_all(b", zero words of the room")?;
+    next(rt, number_of(room, 0))?;
+    rt.write_all(b"\n")
 }
 
-fn enumerate(case: &[u8], x: &[u64], z: &[u64], phases: &[u8], map: &[usize]) {
+fn enumerate(rt: &impl Print, case: &[u8], x: &[u64], z: &[u64], phases: &[u8], map: &[usize]) -> io::Result<()> {
     let vacuum = [0u64; 4];
     let mut ox = [5u64; 2049];
     let mut oz = [5u64; 2049];
@@ -304,11 +306,11 @@ fn enumerate(case: &[u8], x: &[u64], z: &[u64], phases: &[u8], map: &[usize]) {
         &mut ovacuum,
         &mut room,
     );
-    head(case, r.number());
-    summary(x, z, phases, &ox, &oz, &ophases, &ovacuum, &room);
+    head(rt, case, r.number())?;
+    summary(rt, x, z, phases, &ox, &oz, &ophases, &ovacuum, &room)
 }
 
-fn largest(case: &[u8], last: usize) {
+fn largest(rt: &impl Print, case: &[u8], last: usize) -> io::Result<()> {
     let mut x = [0u64; 2048];
     let mut z = [0u64; 2048];
     let mut phases = [0u8; 512];
@@ -316,60 +318,60 @@ fn largest(case: &[u8], last: usize) {
     set_rows(&mut x, &mut z);
     set_phases(&mut phases);
     set_map(&mut map, last);
-    enumerate(case, &x, &z, &phases, &map);
+    enumerate(rt, case, &x, &z, &phases, &map)
 }
 
-fn sizes() {
-    sized(b"2 modes", 2, 2);
-    sized(b"0 modes", 0, 2);
-    sized(b"257 modes", 257, 2);
-    sized(b"the largest number of modes", 18446744073709551615, 2);
-    sized(b"0 qubits", 2, 0);
-    sized(b"257 qubits", 2, 257);
-    sized(b"the largest number of qubits", 2, 18446744073709551615);
+fn sizes(rt: &impl Print) -> io::Result<()> {
+    sized(rt, b"2 modes", 2, 2)?;
+    sized(rt, b"0 modes", 0, 2)?;
+    sized(rt, b"257 modes", 257, 2)?;
+    sized(rt, b"the largest number of modes", 18446744073709551615, 2)?;
+    sized(rt, b"0 qubits", 2, 0)?;
+    sized(rt, b"257 qubits", 2, 257)?;
+    sized(rt, b"the largest number of qubits", 2, 18446744073709551615)
 }
 
-fn one_short() {
-    cut(b"x one short", 3, 4, 4, 1, 2);
-    cut(b"z one short", 4, 3, 4, 1, 2);
-    cut(b"phases one short", 4, 4, 3, 1, 2);
-    cut(b"vacuum one short", 4, 4, 4, 0, 2);
-    cut(b"map one short", 4, 4, 4, 1, 1);
-    cut_out(b"new x one short", 3, 5, 5, 2, 9);
-    cut_out(b"new z one short", 5, 3, 5, 2, 9);
-    cut_out(b"new phases one short", 5, 5, 3, 2, 9);
-    cut_out(b"new vacuum one short", 5, 5, 5, 0, 9);
-    cut_out(b"room one short", 5, 5, 5, 2, 7);
-    cut_out(b"none longer than needed", 4, 4, 4, 1, 8);
+fn one_short(rt: &impl Print) -> io::Result<()> {
+    cut(rt, b"x one short", 3, 4, 4, 1, 2)?;
+    cut(rt, b"z one short", 4, 3, 4, 1, 2)?;
+    cut(rt, b"phases one short", 4, 4, 3, 1, 2)?;
+    cut(rt, b"vacuum one short", 4, 4, 4, 0, 2)?;
+    cut(rt, b"map one short", 4, 4, 4, 1, 1)?;
+    cut_out(rt, b"new x one short", 3, 5, 5, 2, 9)?;
+    cut_out(rt, b"new z one short", 5, 3, 5, 2, 9)?;
+    cut_out(rt, b"new phases one short", 5, 5, 3, 2, 9)?;
+    cut_out(rt, b"new vacuum one short", 5, 5, 5, 0, 9)?;
+    cut_out(rt, b"room one short", 5, 5, 5, 2, 7)?;
+    cut_out(rt, b"none longer than needed", 4, 4, 4, 1, 8)
 }
 
-fn bad_values() {
-    changed(b"stray bit in x", 6, 0, 1, 0, 1, 0);
-    changed(b"stray bit in z", 2, 4, 1, 0, 1, 0);
-    changed(b"stray bit in the vacuum", 2, 0, 1, 4, 1, 0);
-    changed(b"phase 4", 2, 0, 4, 0, 1, 0);
-    changed(b"phase 255", 2, 0, 255, 0, 1, 0);
-    changed(b"a number repeated", 2, 0, 1, 0, 0, 0);
-    changed(b"a number repeated, 0 left out", 2, 0, 1, 0, 1, 1);
-    changed(b"the number 2, 0 left out", 2, 0, 1, 0, 1, 2);
-    changed(b"the number 2 first", 2, 0, 1, 0, 2, 0);
-    changed(b"the largest number", 2, 0, 1, 0, 0, 18446744073709551615);
-    changed(b"a bad map and a phase 4", 2, 0, 4, 0, 1, 1);
-    changed(b"the identity", 2, 0, 1, 0, 0, 1);
+fn bad_values(rt: &impl Print) -> io::Result<()> {
+    changed(rt, b"stray bit in x", 6, 0, 1, 0, 1, 0)?;
+    changed(rt, b"stray bit in z", 2, 4, 1, 0, 1, 0)?;
+    changed(rt, b"stray bit in the vacuum", 2, 0, 1, 4, 1, 0)?;
+    changed(rt, b"phase 4", 2, 0, 4, 0, 1, 0)?;
+    changed(rt, b"phase 255", 2, 0, 255, 0, 1, 0)?;
+    changed(rt, b"a number repeated", 2, 0, 1, 0, 0, 0)?;
+    changed(rt, b"a number repeated, 0 left out", 2, 0, 1, 0, 1, 1)?;
+    changed(rt, b"the number 2, 0 left out", 2, 0, 1, 0, 1, 2)?;
+    changed(rt, b"the number 2 first", 2, 0, 1, 0, 2, 0)?;
+    changed(rt, b"the largest number", 2, 0, 1, 0, 0, 18446744073709551615)?;
+    changed(rt, b"a bad map and a phase 4", 2, 0, 4, 0, 1, 1)?;
+    changed(rt, b"the identity", 2, 0, 1, 0, 0, 1)
 }
 
-fn row_checks() {
-    changed(b"rows 1 and 3 commute", 3, 0, 1, 0, 1, 0);
-    changed(b"a bad map, and rows commute", 3, 0, 1, 0, 1, 1);
-    changed(b"the vacuum breaks the rule", 2, 0, 1, 1, 1, 0);
+fn row_checks(rt: &impl Print) -> io::Result<()> {
+    changed(rt, b"rows 1 and 3 commute", 3, 0, 1, 0, 1, 0)?;
+    changed(rt, b"a bad map, and rows commute", 3, 0, 1, 0, 1, 1)?;
+    changed(rt, b"the vacuum breaks the rule", 2, 0, 1, 1, 1, 0)
 }
 
-fn main() {
-    sizes();
-    one_short();
-    bad_values();
-    row_checks();
-    largest(b"256 modes reversed", 0);
-    largest(b"256 modes, a number repeated", 1);
-    largest(b"256 modes, the number 256", 256);
+fn main(rt: HostRuntime) -> io::Result<()> {
+    sizes(&rt)?;
+    one_short(&rt)?;
+    bad_values(&rt)?;
+    row_checks(&rt)?;
+    largest(&rt, b"256 modes reversed", 0)?;
+    largest(&rt, b"256 modes, a number repeated", 1)?;
+    largest(&rt, b"256 modes, the number 256", 256)
 }

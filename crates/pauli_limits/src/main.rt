@@ -10,45 +10,45 @@ fn wide(x: u8) -> u64 {
     x as u64
 }
 
-fn text(s: &[u8]) {
-    io::write_all(1, s);
+fn text(rt: &impl Print, s: &[u8]) -> io::Result<()> {
+    rt.write_all(s)
 }
 
 // Writes a blank and a number.
-fn next(k: u64) {
-    text(b" ");
-    io::print_decimal(1, k);
+fn next(rt: &impl Print, k: u64) -> io::Result<()> {
+    text(rt, b" ")?;
+    print!(rt; "{k}")
 }
 
 // Starts a line with the case and the number handed back.
-fn head(case: &[u8], k: u8) {
-    text(case);
-    text(b":");
-    next(wide(k));
+fn head(rt: &impl Print, case: &[u8], k: u8) -> io::Result<()> {
+    text(rt, case)?;
+    text(rt, b":")?;
+    next(rt, wide(k))
 }
 
 // Ends it with both words of the product's parts.
-fn parts(ox: &[u64; 2], oz: &[u64; 2]) {
-    text(b", x");
-    next(ox[0]);
-    next(ox[1]);
-    text(b", z");
-    next(oz[0]);
-    next(oz[1]);
-    text(b"\n");
+fn parts(rt: &impl Print, ox: &[u64; 2], oz: &[u64; 2]) -> io::Result<()> {
+    text(rt, b", x")?;
+    next(rt, ox[0])?;
+    next(rt, ox[1])?;
+    text(rt, b", z")?;
+    next(rt, oz[0])?;
+    next(rt, oz[1])?;
+    text(rt, b"\n")
 }
 
 // Writes whether two rows commute.
-fn commute(yes: bool) {
+fn commute(rt: &impl Print, yes: bool) -> io::Result<()> {
     if yes {
-        text(b", commute");
-    } else {
-        text(b", anticommute");
-    }
+        text(rt, b", commute")
+} else {
+        text(rt, b", anticommute")
+}
 }
 
 // A product's line, but for the parts.
-fn multiply(
+fn multiply(rt: &impl Print, 
     case: &[u8],
     columns: usize,
     left: u8,
@@ -59,102 +59,102 @@ fn multiply(
     rz: &[u64],
     ox: &mut [u64],
     oz: &mut [u64],
-) {
+) -> io::Result<()> {
     let l = Phase { power: left };
     let r = Phase { power: right };
     match pauli::multiply(columns, l, lx, lz, r, rx, rz, ox, oz) {
         Product::Done(f, c) => {
-            head(case, 0);
-            text(b", phase");
-            next(wide(f.power));
-            commute(c);
-        }
-        Product::Refused(why) => head(case, why.number()),
+            head(rt, case, 0)?;
+            text(rt, b", phase")?;
+            next(rt, wide(f.power))?;
+            commute(rt, c)
+}
+        Product::Refused(why) => head(rt, case, why.number()),
     }
 }
 
 // X and Y in column 0, with two words of each part.
-fn sized(case: &[u8], columns: usize, left: u8, right: u8) {
+fn sized(rt: &impl Print, case: &[u8], columns: usize, left: u8, right: u8) -> io::Result<()> {
     let one = [1u64, 0];
     let none = [0u64; 2];
     let mut ox = [7u64; 2];
     let mut oz = [7u64; 2];
-    multiply(
+    multiply(rt, 
         case, columns, left, &one, &none, right, &one, &one, &mut ox, &mut oz,
-    );
-    parts(&ox, &oz);
+    )?;
+    parts(rt, &ox, &oz)
 }
 
-fn sizes() {
-    sized(b"1 column", 1, 0, 1);
-    sized(b"phases 3 and 3", 1, 3, 3);
-    sized(b"left phase 4", 1, 4, 1);
-    sized(b"right phase 4", 1, 0, 4);
-    sized(b"0 columns", 0, 0, 1);
-    sized(b"257 columns", 257, 0, 1);
-    sized(b"the largest number of columns", 18446744073709551615, 0, 1);
+fn sizes(rt: &impl Print) -> io::Result<()> {
+    sized(rt, b"1 column", 1, 0, 1)?;
+    sized(rt, b"phases 3 and 3", 1, 3, 3)?;
+    sized(rt, b"left phase 4", 1, 4, 1)?;
+    sized(rt, b"right phase 4", 1, 0, 4)?;
+    sized(rt, b"0 columns", 0, 0, 1)?;
+    sized(rt, b"257 columns", 257, 0, 1)?;
+    sized(rt, b"the largest number of columns", 18446744073709551615, 0, 1)
 }
 
 // Phases 0, and one word of each part that is read.
-fn words(case: &[u8], columns: usize, lx: u64, lz: u64, rx: u64, rz: u64) {
+fn words(rt: &impl Print, case: &[u8], columns: usize, lx: u64, lz: u64, rx: u64, rz: u64) -> io::Result<()> {
     let mut ox = [7u64; 2];
     let mut oz = [7u64; 2];
-    multiply(
+    multiply(rt, 
         case, columns, 0, &[lx; 1], &[lz; 1], 0, &[rx; 1], &[rz; 1], &mut ox, &mut oz,
-    );
-    parts(&ox, &oz);
+    )?;
+    parts(rt, &ox, &oz)
 }
 
 // The highest bit set is in the last column, or past it.
-fn strays() {
-    words(b"bit 2 on 3 columns", 3, 4, 0, 0, 0);
-    words(b"left X part, bit 2 on 2 columns", 2, 4, 0, 0, 0);
-    words(b"left Z part, bit 2 on 2 columns", 2, 0, 4, 0, 0);
-    words(b"right X part, bit 2 on 2 columns", 2, 0, 0, 4, 0);
-    words(b"right Z part, bit 2 on 2 columns", 2, 0, 0, 0, 4);
-    words(
+fn strays(rt: &impl Print) -> io::Result<()> {
+    words(rt, b"bit 2 on 3 columns", 3, 4, 0, 0, 0)?;
+    words(rt, b"left X part, bit 2 on 2 columns", 2, 4, 0, 0, 0)?;
+    words(rt, b"left Z part, bit 2 on 2 columns", 2, 0, 4, 0, 0)?;
+    words(rt, b"right X part, bit 2 on 2 columns", 2, 0, 0, 4, 0)?;
+    words(rt, b"right Z part, bit 2 on 2 columns", 2, 0, 0, 0, 4)?;
+    words(rt, 
         b"X and Z at bit 63 on 64 columns",
         64,
         0x8000_0000_0000_0000,
         0,
         0,
         0x8000_0000_0000_0000,
-    );
-    words(
+    )?;
+    words(rt, 
         b"X and Z at bit 63 on 63 columns",
         63,
         0x8000_0000_0000_0000,
         0,
         0,
         0x8000_0000_0000_0000,
-    );
+    )
 }
 
 // On 65 columns, with two words for each part of the product.
-fn lent(case: &[u8], lx: &[u64], lz: &[u64], rx: &[u64], rz: &[u64]) {
+fn lent(rt: &impl Print, case: &[u8], lx: &[u64], lz: &[u64], rx: &[u64], rz: &[u64]) -> io::Result<()> {
     let mut ox = [7u64; 2];
     let mut oz = [7u64; 2];
-    multiply(case, 65, 0, lx, lz, 0, rx, rz, &mut ox, &mut oz);
-    parts(&ox, &oz);
+    multiply(rt, case, 65, 0, lx, lz, 0, rx, rz, &mut ox, &mut oz)?;
+    parts(rt, &ox, &oz)
 }
 
 // One part has one word where two are needed.
-fn one_short() {
+fn one_short(rt: &impl Print) -> io::Result<()> {
     let one = [1u64; 1];
     let two = [1u64; 2];
-    lent(b"nothing short", &two, &two, &two, &two);
-    lent(b"left X part short", &one, &two, &two, &two);
-    lent(b"left Z part short", &two, &one, &two, &two);
-    lent(b"right X part short", &two, &two, &one, &two);
-    lent(b"right Z part short", &two, &two, &two, &one);
+    lent(rt, b"nothing short", &two, &two, &two, &two)?;
+    lent(rt, b"left X part short", &one, &two, &two, &two)?;
+    lent(rt, b"left Z part short", &two, &one, &two, &two)?;
+    lent(rt, b"right X part short", &two, &two, &one, &two)?;
+    lent(rt, b"right Z part short", &two, &two, &two, &one)
 }
 
 // The same of a part of the product.
-fn x_short() {
+fn x_short(rt: &impl Print) -> io::Result<()> {
     let two = [1u64; 2];
     let mut ox = [7u64; 2];
     let mut oz = [7u64; 2];
-    multiply(
+    multiply(rt, 
         b"x short",
         65,
         0,
@@ -165,15 +165,15 @@ fn x_short() {
         &two,
         &mut ox[..1],
         &mut oz,
-    );
-    parts(&ox, &oz);
+    )?;
+    parts(rt, &ox, &oz)
 }
 
-fn z_short() {
+fn z_short(rt: &impl Print) -> io::Result<()> {
     let two = [1u64; 2];
     let mut ox = [7u64; 2];
     let mut oz = [7u64; 2];
-    multiply(
+    multiply(rt, 
         b"z short",
         65,
         0,
@@ -184,14 +184,14 @@ fn z_short() {
         &two,
         &mut ox,
         &mut oz[..1],
-    );
-    parts(&ox, &oz);
+    )?;
+    parts(rt, &ox, &oz)
 }
 
-fn main() {
-    sizes();
-    strays();
-    one_short();
-    x_short();
-    z_short();
+fn main(rt: HostRuntime) -> io::Result<()> {
+    sizes(&rt)?;
+    strays(&rt)?;
+    one_short(&rt)?;
+    x_short(&rt)?;
+    z_short(&rt)
 }

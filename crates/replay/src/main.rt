@@ -11,7 +11,7 @@ mod calls; // calls.rt: each call, and its answer written
 mod text; // text.rt: numbers read and written
 
 // A call on a row set whose parts are read, and where the case ends.
-fn on_set(
+fn on_set(rt: &impl Print, 
     call: u64,
     s: &[u8],
     from: usize,
@@ -20,39 +20,39 @@ fn on_set(
     x: &[u64],
     z: &[u64],
     p: &[u8],
-) -> usize {
+) -> io::Result<usize> {
     if call == 0 {
-        calls::solve(n, q, x, z, p);
-        return from;
+        calls::solve(rt, n, q, x, z, p)?;
+        return Ok(from);
     }
     if call == 1 {
-        calls::new(n, q, x, z, p);
-        return from;
+        calls::new(rt, n, q, x, z, p)?;
+        return Ok(from);
     }
     if call == 6 {
-        return calls::product(s, from, n, q, x, z, p);
+        return calls::product(rt, s, from, n, q, x, z, p);
     }
     let mut v = [0u64; 2];
     let at = text::words_in(s, from, &mut v, 2);
     if call == 2 {
-        calls::check(n, q, x, z, p, &v);
-        return at;
+        calls::check(rt, n, q, x, z, p, &v)?;
+        return Ok(at);
     }
     if call == 5 {
-        return calls::enumerate(s, at, n, q, x, z, p, &v);
+        return calls::enumerate(rt, s, at, n, q, x, z, p, &v);
     }
     let mut b = [0u64; 2];
     let end = text::words_in(s, at, &mut b, 2);
     if call == 3 {
-        calls::encode(n, q, x, z, p, &v, &b);
+        calls::encode(rt, n, q, x, z, p, &v, &b)?;
     } else {
-        calls::decode(n, q, x, z, p, &v, &b);
+        calls::decode(rt, n, q, x, z, p, &v, &b)?;
     }
     end
 }
 
 // The row set of a case, and the call on it.
-fn with_rows(call: u64, s: &[u8], from: usize, n: usize, q: usize) -> usize {
+fn with_rows(rt: &impl Print, call: u64, s: &[u8], from: usize, n: usize, q: usize) -> io::Result<usize> {
     let mut x = [0u64; 512];
     let mut z = [0u64; 512];
     let mut p = [0u8; 256];
@@ -60,54 +60,54 @@ fn with_rows(call: u64, s: &[u8], from: usize, n: usize, q: usize) -> usize {
     let xs = text::words_in(s, from, &mut x, k);
     let zs = text::words_in(s, xs, &mut z, k);
     let ps = text::bytes_in(s, zs, &mut p, calls::row_count(n));
-    on_set(call, s, ps, n, q, &x, &z, &p)
+    on_set(rt, call, s, ps, n, q, &x, &z, &p)?
 }
 
 // One case; where it ends.
-fn one(s: &[u8], from: usize) -> usize {
+fn one(rt: &impl Print, s: &[u8], from: usize) -> io::Result<usize> {
     let call = text::number_in(s, from);
     let n = text::number_in(s, call.next);
     let q = text::number_in(s, n.next);
     let modes = n.value as usize;
     let qubits = q.value as usize;
     if call.value < 7 {
-        return with_rows(call.value, s, q.next, modes, qubits);
+        return with_rows(rt, call.value, s, q.next, modes, qubits);
     }
     if call.value == 7 {
-        calls::maxnto(modes);
-        return q.next;
+        calls::maxnto(rt, modes)?;
+        return Ok(q.next);
     }
     if call.value == 8 {
         let tree = text::number_in(s, q.next);
-        calls::named(tree.value, modes, qubits);
-        return tree.next;
+        calls::named(rt, tree.value, modes, qubits)?;
+        return Ok(tree.next);
     }
     if call.value == 11 {
-        return calls::pair(s, q.next, qubits);
+        return calls::pair(rt, s, q.next, qubits);
     }
-    calls::flatpack(call.value == 9, s, q.next, modes, qubits)
+    calls::flatpack(rt, call.value == 9, s, q.next, modes, qubits)?
 }
 
 // Every case of a text, of at most 65536; how many there are.
-fn replay(s: &[u8]) -> u64 {
+fn replay(rt: &impl Print, s: &[u8]) -> io::Result<u64> {
     let mut at = 0;
     let mut cases = 0;
     while cases < 65536 {
         let from = text::skip(s, at);
         if s.len() <= from {
-            return cases;
+            return Ok(cases);
         }
-        at = one(s, from);
-        text::line_out();
+        at = one(rt, s, from)?;
+        text::line_out(rt)?;
         cases += 1;
     }
     cases
 }
 
-fn main() {
+fn main(rt: HostRuntime) -> io::Result<()> {
     let mut s = io::large_buffer();
     let n = io::read_full(0, &mut s);
-    let cases = replay(&s[..n]);
-    io::print_decimal(1, cases);
-    io::write_all(1, b" cases\n");
+    let cases = replay(&rt, &s[..n])?;
+    print!(&rt; "{cases}")?;
+    rt.write_all(b" cases\n")
 }

@@ -126,31 +126,33 @@ pub fn flags_in(s: &[u8], from: usize, out: &mut [bool], k: usize) -> usize {
 }
 
 // Writes a number in hexadecimal.
-pub fn number_out(k: u64) {
-    io::print_hex(1, k, 1);
+pub fn number_out(rt: &impl Print, k: u64) -> io::Result<()> {
+    print!(rt; "{k:x}")
 }
 
-pub fn line_out() {
-    io::write_all(1, b"\n");
+pub fn line_out(rt: &impl Print) -> io::Result<()> {
+    rt.write_all(b"\n")
 }
 
 // Writes the first k numbers, or as many as there are, a blank before each.
-pub fn words_out(s: &[u64], k: usize) {
+pub fn words_out(rt: &impl Print, s: &[u64], k: usize) -> io::Result<()> {
     let n = least(k, s.len());
     let mut i = 0;
     while i < n {
-        io::write_all(1, b" ");
-        number_out(s[i]);
+        rt.write_all(b" ")?;
+        number_out(rt, s[i])?;
         i += 1;
     }
+    Ok(())
 }
 
-pub fn bytes_out(s: &[u8], k: usize) {
+pub fn bytes_out(rt: &impl Print, s: &[u8], k: usize) -> io::Result<()> {
     let n = least(k, s.len());
     let mut i = 0;
     while i < n {
-        io::write_all(1, b" ");
-        number_out(wide(s[i]));
+        rt.write_all(b" ")?;
+        number_out(rt, wide(s[i]))?;
         i += 1;
     }
+    Ok(())
 }

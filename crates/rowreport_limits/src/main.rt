@@ -20,18 +20,18 @@ fn number(a: Answer) -> u64 {
 }
 
 // Writes what is answered to the text that led to a state.
-fn answer(case: &[u8], s: State, table: &[usize]) {
+fn answer(rt: &impl Print, case: &[u8], s: State, table: &[usize]) -> io::Result<()> {
     let mut out = [0u8; 164480];
     let r = reply::respond(s, table, &mut out);
-    io::write_all(1, case);
-    io::write_all(1, b": ");
+    rt.write_all(case)?;
+    rt.write_all(b": ")?;
     let a = r.answer;
-    io::print_decimal(1, number(a));
-    io::write_all(1, b", line ");
-    io::print_decimal(1, wide(r.line));
-    io::write_all(1, b", bytes ");
-    io::print_decimal(1, wide(r.length));
-    io::write_all(1, b"\n");
+    print!(rt; "{}", number(a))?;
+    rt.write_all(b", line ")?;
+    print!(rt; "{}", wide(r.line))?;
+    rt.write_all(b", bytes ")?;
+    print!(rt; "{}", wide(r.length))?;
+    rt.write_all(b"\n")
 }
 
 // A number and the byte after it.
@@ -87,67 +87,67 @@ fn feed_good(s: State, n: u64, table: &mut [usize]) -> State {
     t
 }
 
-fn chain(case: &[u8], n: u64) {
+fn chain(rt: &impl Print, case: &[u8], n: u64) -> io::Result<()> {
     let mut table = [0usize; 1024];
     let s = feed_chain(n, &mut table);
-    answer(case, s, &table);
+    answer(rt, case, s, &table)
 }
 
 // n good lines, and then a text.
-fn after_good(case: &[u8], n: u64, text: &[u8]) {
+fn after_good(rt: &impl Print, case: &[u8], n: u64, text: &[u8]) -> io::Result<()> {
     let mut table = [0usize; 1024];
     let s = feed_good(read::start(), n, &mut table);
     let t = read::feed(s, text, &mut table);
-    answer(case, t, &table);
+    answer(rt, case, t, &table)
 }
 
 // A text, and then n good lines.
-fn before_good(case: &[u8], text: &[u8], n: u64) {
+fn before_good(rt: &impl Print, case: &[u8], text: &[u8], n: u64) -> io::Result<()> {
     let mut table = [0usize; 1024];
     let s = read::feed(read::start(), text, &mut table);
     let t = feed_good(s, n, &mut table);
-    answer(case, t, &table);
+    answer(rt, case, t, &table)
 }
 
-fn long_texts() {
-    after_good(b"an empty text", 0, b"");
-    chain(b"1 entry", 1);
-    chain(b"128 entries", 128);
-    chain(b"129 entries", 129);
-    chain(b"256 entries", 256);
-    chain(b"257 entries", 257);
-    after_good(b"100,000 good lines", 100000, b"");
-    after_good(
+fn long_texts(rt: &impl Print) -> io::Result<()> {
+    after_good(rt, b"an empty text", 0, b"")?;
+    chain(rt, b"1 entry", 1)?;
+    chain(rt, b"128 entries", 128)?;
+    chain(rt, b"129 entries", 129)?;
+    chain(rt, b"256 entries", 256)?;
+    chain(rt, b"257 entries", 257)?;
+    after_good(rt, b"100,000 good lines", 100000, b"")?;
+    after_good(rt, 
         b"100,000 good lines and then a bad one",
         100000,
         b"0\t1\t2\n",
-    );
-    before_good(
+    )?;
+    before_good(rt, 
         b"a bad line and then 100,000 good ones",
         b"0\t1\t2\n",
         100000,
-    );
-    after_good(b"qubit 255", 0, b"255\t256\t257\t-\n");
-    after_good(b"qubit 256", 0, b"256\t257\t258\t-\n");
+    )?;
+    after_good(rt, b"qubit 255", 0, b"255\t256\t257\t-\n")?;
+    after_good(rt, b"qubit 256", 0, b"256\t257\t258\t-\n")
 }
 
-fn malformed() {
-    after_good(b"CR before LF", 1, b"1\t4\t5\t-\r\n");
-    after_good(b"a blank at a line's end", 1, b"1\t4\t5\t- \n");
-    after_good(b"a trailing tab", 1, b"1\t4\t5\t-\t\n");
-    after_good(b"00", 1, b"1\t4\t5\t00\n");
-    after_good(b"65535", 1, b"1\t4\t5\t65535\n");
-    after_good(b"65536", 1, b"1\t4\t5\t65536\n");
-    after_good(b"+1", 1, b"1\t4\t5\t+1\n");
-    after_good(b"a NUL byte", 1, b"1\t4\t5\t-\0\n");
-    after_good(b"no last line feed", 1, b"1\t4\t5\t-");
-    after_good(b"a dash as qubit", 1, b"-\t4\t5\t-\n");
-    after_good(b"three fields", 1, b"1\t4\t5\n");
-    after_good(b"five fields", 1, b"1\t4\t5\t-\t-\n");
-    after_good(b"an empty line", 1, b"\n");
+fn malformed(rt: &impl Print) -> io::Result<()> {
+    after_good(rt, b"CR before LF", 1, b"1\t4\t5\t-\r\n")?;
+    after_good(rt, b"a blank at a line's end", 1, b"1\t4\t5\t- \n")?;
+    after_good(rt, b"a trailing tab", 1, b"1\t4\t5\t-\t\n")?;
+    after_good(rt, b"00", 1, b"1\t4\t5\t00\n")?;
+    after_good(rt, b"65535", 1, b"1\t4\t5\t65535\n")?;
+    after_good(rt, b"65536", 1, b"1\t4\t5\t65536\n")?;
+    after_good(rt, b"+1", 1, b"1\t4\t5\t+1\n")?;
+    after_good(rt, b"a NUL byte", 1, b"1\t4\t5\t-\0\n")?;
+    after_good(rt, b"no last line feed", 1, b"1\t4\t5\t-")?;
+    after_good(rt, b"a dash as qubit", 1, b"-\t4\t5\t-\n")?;
+    after_good(rt, b"three fields", 1, b"1\t4\t5\n")?;
+    after_good(rt, b"five fields", 1, b"1\t4\t5\t-\t-\n")?;
+    after_good(rt, b"an empty line", 1, b"\n")
 }
 
-fn main() {
-    long_texts();
-    malformed();
+fn main(rt: HostRuntime) -> io::Result<()> {
+    long_texts(&rt)?;
+    malformed(&rt)
 }

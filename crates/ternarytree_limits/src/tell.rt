@@ -10,27 +10,29 @@ fn wide(x: u8) -> u64 {
 }
 
 // Writes a blank and a number.
-fn next(k: u64) {
-    io::write_all(1, b" ");
-    io::print_decimal(1, k);
+fn next(rt: &impl Print, k: u64) -> io::Result<()> {
+    rt.write_all(b" ")?;
+    print!(rt; "{k}")
 }
 
 // Writes the words of s, a blank before each.
-fn words(s: &[u64]) {
+fn words(rt: &impl Print, s: &[u64]) -> io::Result<()> {
     let mut i = 0;
     while i < s.len() {
-        next(s[i]);
+        next(rt, s[i])?;
         i += 1;
     }
+    Ok(())
 }
 
 // The same for bytes.
-fn bytes(s: &[u8]) {
+fn bytes(rt: &impl Print, s: &[u8]) -> io::Result<()> {
     let mut i = 0;
     while i < s.len() {
-        next(wide(s[i]));
+        next(rt, wide(s[i]))?;
         i += 1;
     }
+    Ok(())
 }
 
 // How many words of s are v.
@@ -64,65 +66,65 @@ fn count_bytes(s: &[u8], v: u8) -> u64
 }
 
 // Writes how many words of s are 0 and how many 7.
-fn counts(s: &[u64]) {
-    next(count(s, 0));
-    next(count(s, 7));
+fn counts(rt: &impl Print, s: &[u64]) -> io::Result<()> {
+    next(rt, count(s, 0))?;
+    next(rt, count(s, 7))
 }
 
 // Starts a line with the call, the case and the number handed back.
-pub fn head(call: &[u8], case: &[u8], r: Answer) {
-    io::write_all(1, call);
-    io::write_all(1, b", ");
-    io::write_all(1, case);
-    io::write_all(1, b": ");
-    io::print_decimal(1, wide(r.number()));
+pub fn head(rt: &impl Print, call: &[u8], case: &[u8], r: Answer) -> io::Result<()> {
+    rt.write_all(call)?;
+    rt.write_all(b", ")?;
+    rt.write_all(case)?;
+    rt.write_all(b": ")?;
+    print!(rt; "{}", wide(r.number()))
 }
 
 // Writes the name of a named tree.
-pub fn name(tree: Named) {
+pub fn name(rt: &impl Print, tree: Named) -> io::Result<()> {
     match tree {
         Named::JordanWigner => {
-            io::write_all(1, b"Jordan-Wigner");
-        }
+            rt.write_all(b"Jordan-Wigner")
+}
         Named::Parity => {
-            io::write_all(1, b"parity");
-        }
+            rt.write_all(b"parity")
+}
         Named::BravyiKitaev => {
-            io::write_all(1, b"Bravyi-Kitaev");
-        }
+            rt.write_all(b"Bravyi-Kitaev")
+}
         Named::Jkmn => {
-            io::write_all(1, b"JKMN");
-        }
+            rt.write_all(b"JKMN")
+}
     }
 }
 
 // Writes how much of each slice is 0 and how much 7.
-pub fn tally(x: &[u64], z: &[u64], phases: &[u8], vacuum: &[u64], room: &[u64]) {
-    io::write_all(1, b", x");
-    counts(x);
-    io::write_all(1, b", z");
-    counts(z);
-    io::write_all(1, b", phases");
-    next(count_bytes(phases, 0));
-    next(count_bytes(phases, 7));
-    io::write_all(1, b", vacuum");
-    counts(vacuum);
-    io::write_all(1, b", room");
-    counts(room);
-    io::write_all(1, b"\n");
+pub fn tally(rt: &impl Print, x: &[u64], z: &[u64], phases: &[u8], vacuum: &[u64], room: &[u64]) -> io::Result<()> {
+    rt.write_all(b", x")?;
+    counts(rt, x)?;
+    rt.write_all(b", z")?;
+    counts(rt, z)?;
+    rt.write_all(b", phases")?;
+    next(rt, count_bytes(phases, 0))?;
+    next(rt, count_bytes(phases, 7))?;
+    rt.write_all(b", vacuum")?;
+    counts(rt, vacuum)?;
+    rt.write_all(b", room")?;
+    counts(rt, room)?;
+    rt.write_all(b"\n")
 }
 
 // Writes what is left after a call.
-pub fn left(x: &[u64], z: &[u64], phases: &[u8], vacuum: &[u64], room: &[u64]) {
-    io::write_all(1, b", x");
-    words(x);
-    io::write_all(1, b", z");
-    words(z);
-    io::write_all(1, b", phases");
-    bytes(phases);
-    io::write_all(1, b", vacuum");
-    words(vacuum);
-    io::write_all(1, b", room");
-    words(room);
-    io::write_all(1, b"\n");
+pub fn left(rt: &impl Print, x: &[u64], z: &[u64], phases: &[u8], vacuum: &[u64], room: &[u64]) -> io::Result<()> {
+    rt.write_all(b", x")?;
+    words(rt, x)?;
+    rt.write_all(b", z")?;
+    words(rt, z)?;
+    rt.write_all(b", phases")?;
+    bytes(rt, phases)?;
+    rt.write_all(b", vacuum")?;
+    words(rt, vacuum)?;
+    rt.write_all(b", room")?;
+    words(rt, room)?;
+    rt.write_all(b"\n")
 }
