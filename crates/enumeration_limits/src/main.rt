@@ -5,14 +5,15 @@
 
 ghost use Rattle.std.specs.Prelude.{◌<◌, ◌≤◌, length};
 
+use std::io;
+
 fn wide(x: u8) -> u64 {
     x as u64
 }
 
 // Writes a blank and a number.
 fn next(rt: &impl Print, k: u64) -> io::Result<()> {
-    rt.write_all(b" ")?;
-    print!(rt; "{k}")
+    print!(rt; " {k}")
 }
 
 // Writes a name and the words of s, a blank before each.
@@ -45,7 +46,16 @@ fn head(rt: &impl Print, case: &[u8], k: u8) -> io::Result<()> {
 }
 
 // Writes a line.
-fn line(rt: &impl Print, case: &[u8], k: u8, ox: &[u64], oz: &[u64], ophases: &[u8], ovacuum: &[u64], room: &[u64]) -> io::Result<()> {
+fn line(
+    rt: &impl Print,
+    case: &[u8],
+    k: u8,
+    ox: &[u64],
+    oz: &[u64],
+    ophases: &[u8],
+    ovacuum: &[u64],
+    room: &[u64],
+) -> io::Result<()> {
     head(rt, case, k)?;
     words(rt, b", x", ox)?;
     words(rt, b", z", oz)?;
@@ -56,7 +66,8 @@ fn line(rt: &impl Print, case: &[u8], k: u8, ox: &[u64], oz: &[u64], ophases: &[
 }
 
 // One call, with so many words or phases of each slice that is written.
-fn run(rt: &impl Print, 
+fn run(
+    rt: &impl Print,
     case: &[u8],
     modes: usize,
     qubits: usize,
@@ -102,13 +113,21 @@ fn sized(rt: &impl Print, case: &[u8], modes: usize, qubits: usize) -> io::Resul
     let phases = [0u8, 1, 0, 1];
     let vacuum = [0u64; 1];
     let map = [1usize, 0];
-    run(rt, 
-        case, modes, qubits, &x, &z, &phases, &vacuum, &map, 5, 5, 5, 2, 9,
+    run(
+        rt, case, modes, qubits, &x, &z, &phases, &vacuum, &map, 5, 5, 5, 2, 9,
     )
 }
 
 // The same, with so many words, phases or numbers of each slice that is read.
-fn cut(rt: &impl Print, case: &[u8], nx: usize, nz: usize, np: usize, nv: usize, nm: usize) -> io::Result<()>
+fn cut(
+    rt: &impl Print,
+    case: &[u8],
+    nx: usize,
+    nz: usize,
+    np: usize,
+    nv: usize,
+    nm: usize,
+) -> io::Result<()>
     requires { (nx ≤ 4) × (nz ≤ 4) × (np ≤ 4) × (nv ≤ 1) × (nm ≤ 2) }
 {
     let x = [1u64, 1, 2, 2];
@@ -116,7 +135,8 @@ fn cut(rt: &impl Print, case: &[u8], nx: usize, nz: usize, np: usize, nv: usize,
     let phases = [0u8, 1, 0, 1];
     let vacuum = [0u64; 1];
     let map = [1usize, 0];
-    run(rt, 
+    run(
+        rt,
         case,
         2,
         2,
@@ -134,7 +154,15 @@ fn cut(rt: &impl Print, case: &[u8], nx: usize, nz: usize, np: usize, nv: usize,
 }
 
 // And of each that is written.
-fn cut_out(rt: &impl Print, case: &[u8], nx: usize, nz: usize, np: usize, nv: usize, nr: usize) -> io::Result<()>
+fn cut_out(
+    rt: &impl Print,
+    case: &[u8],
+    nx: usize,
+    nz: usize,
+    np: usize,
+    nv: usize,
+    nr: usize,
+) -> io::Result<()>
     requires { (nx ≤ 5) × (nz ≤ 5) × (np ≤ 5) × (nv ≤ 2) × (nr ≤ 9) }
 {
     let x = [1u64, 1, 2, 2];
@@ -142,19 +170,30 @@ fn cut_out(rt: &impl Print, case: &[u8], nx: usize, nz: usize, np: usize, nv: us
     let phases = [0u8, 1, 0, 1];
     let vacuum = [0u64; 1];
     let map = [1usize, 0];
-    run(rt, 
-        case, 2, 2, &x, &z, &phases, &vacuum, &map, nx, nz, np, nv, nr,
+    run(
+        rt, case, 2, 2, &x, &z, &phases, &vacuum, &map, nx, nz, np, nv, nr,
     )
 }
 
 // The same, with these in place of the last X part, the first Z part, the last phase, the vacuum and the map.
-fn changed(rt: &impl Print, case: &[u8], last: u64, first: u64, p: u8, v: u64, m0: usize, m1: usize) -> io::Result<()> {
+fn changed(
+    rt: &impl Print,
+    case: &[u8],
+    last: u64,
+    first: u64,
+    p: u8,
+    v: u64,
+    m0: usize,
+    m1: usize,
+) -> io::Result<()> {
     let x = [1u64, 1, 2, last];
     let z = [first, 1, 1, 3];
     let phases = [0u8, 1, 0, p];
     let vacuum = [v; 1];
     let map = [m0, m1];
-    run(rt, case, 2, 2, &x, &z, &phases, &vacuum, &map, 5, 5, 5, 2, 9)
+    run(
+        rt, case, 2, 2, &x, &z, &phases, &vacuum, &map, 5, 5, 5, 2, 9,
+    )
 }
 
 // ---- 256 modes on 256 qubits: Jordan-Wigner, row k from column 256k of the block on
@@ -261,7 +300,8 @@ fn number_of(s: &[u64], v: u64) -> u64 {
 }
 
 // Writes how many rows moved, how many words are 5, as all were before, and how many words of the room are zero.
-fn summary(rt: &impl Print, 
+fn summary(
+    rt: &impl Print,
     x: &[u64],
     z: &[u64],
     phases: &[u8],
@@ -285,7 +325,14 @@ fn summary(rt: &impl Print,
     rt.write_all(b"\n")
 }
 
-fn enumerate(rt: &impl Print, case: &[u8], x: &[u64], z: &[u64], phases: &[u8], map: &[usize]) -> io::Result<()> {
+fn enumerate(
+    rt: &impl Print,
+    case: &[u8],
+    x: &[u64],
+    z: &[u64],
+    phases: &[u8],
+    map: &[usize],
+) -> io::Result<()> {
     let vacuum = [0u64; 4];
     let mut ox = [5u64; 2049];
     let mut oz = [5u64; 2049];
@@ -355,7 +402,16 @@ fn bad_values(rt: &impl Print) -> io::Result<()> {
     changed(rt, b"a number repeated, 0 left out", 2, 0, 1, 0, 1, 1)?;
     changed(rt, b"the number 2, 0 left out", 2, 0, 1, 0, 1, 2)?;
     changed(rt, b"the number 2 first", 2, 0, 1, 0, 2, 0)?;
-    changed(rt, b"the largest number", 2, 0, 1, 0, 0, 18446744073709551615)?;
+    changed(
+        rt,
+        b"the largest number",
+        2,
+        0,
+        1,
+        0,
+        0,
+        18446744073709551615,
+    )?;
     changed(rt, b"a bad map and a phase 4", 2, 0, 4, 0, 1, 1)?;
     changed(rt, b"the identity", 2, 0, 1, 0, 0, 1)
 }

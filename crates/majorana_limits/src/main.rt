@@ -6,6 +6,7 @@
 ghost use Rattle.std.specs.Prelude.{◌≤◌, length};
 
 use majorana::Encoded;
+use std::io;
 
 fn wide(x: u8) -> u64 {
     x as u64
@@ -29,8 +30,7 @@ fn phase(r: Encoded) -> u8 {
 
 // Writes a blank and a number.
 fn next(rt: &impl Print, k: u64) -> io::Result<()> {
-    rt.write_all(b" ")?;
-    print!(rt; "{k}")
+    print!(rt; " {k}")
 }
 
 // Writes the words of s, a blank before each.
@@ -52,7 +52,8 @@ fn head(rt: &impl Print, call: &[u8], case: &[u8], k: u8) -> io::Result<()> {
     print!(rt; "{}", wide(k))
 }
 
-fn encode(rt: &impl Print, 
+fn encode(
+    rt: &impl Print,
     case: &[u8],
     modes: usize,
     qubits: usize,
@@ -75,7 +76,8 @@ fn encode(rt: &impl Print,
     rt.write_all(b"\n")
 }
 
-fn decode(rt: &impl Print, 
+fn decode(
+    rt: &impl Print,
     case: &[u8],
     modes: usize,
     qubits: usize,
@@ -105,7 +107,8 @@ fn decode(rt: &impl Print,
     rt.write_all(b"\n")
 }
 
-fn check(rt: &impl Print, 
+fn check(
+    rt: &impl Print,
     case: &[u8],
     modes: usize,
     qubits: usize,
@@ -120,7 +123,8 @@ fn check(rt: &impl Print,
 }
 
 // All three calls on one row set.
-fn three(rt: &impl Print, 
+fn three(
+    rt: &impl Print,
     case: &[u8],
     modes: usize,
     qubits: usize,
@@ -140,7 +144,8 @@ fn three(rt: &impl Print,
 }
 
 // The same, with so many words or phases of each slice.
-fn parts(rt: &impl Print, 
+fn parts(
+    rt: &impl Print,
     case: &[u8],
     modes: usize,
     qubits: usize,
@@ -160,7 +165,8 @@ fn parts(rt: &impl Print,
 ) -> io::Result<()>
     requires { (nx ≤ length x.now) × (nz ≤ length z.now) × (np ≤ length phases.now) × (nv ≤ length vacuum.now) × (nl ≤ length list.now) × (ns ≤ length string.now) × (room ≤ 5) }
 {
-    three(rt, 
+    three(
+        rt,
         case,
         modes,
         qubits,
@@ -182,13 +188,23 @@ fn sized(rt: &impl Print, case: &[u8], modes: usize, qubits: usize) -> io::Resul
     let vacuum = [0u64; 1];
     let list = [3u64; 1];
     let string = [3u64; 1];
-    three(rt, 
-        case, modes, qubits, &x, &z, &phases, &vacuum, &list, &string, 5,
+    three(
+        rt, case, modes, qubits, &x, &z, &phases, &vacuum, &list, &string, 5,
     )
 }
 
 // The same, with so many words or phases of each slice.
-fn cut(rt: &impl Print, case: &[u8], nx: usize, nz: usize, np: usize, nv: usize, nl: usize, ns: usize, room: usize) -> io::Result<()>
+fn cut(
+    rt: &impl Print,
+    case: &[u8],
+    nx: usize,
+    nz: usize,
+    np: usize,
+    nv: usize,
+    nl: usize,
+    ns: usize,
+    room: usize,
+) -> io::Result<()>
     requires { (nx ≤ 4) × (nz ≤ 4) × (np ≤ 4) × (nv ≤ 1) × (nl ≤ 1) × (ns ≤ 1) × (room ≤ 5) }
 {
     let x = [1u64, 1, 2, 2];
@@ -197,13 +213,22 @@ fn cut(rt: &impl Print, case: &[u8], nx: usize, nz: usize, np: usize, nv: usize,
     let vacuum = [0u64; 1];
     let list = [3u64; 1];
     let string = [3u64; 1];
-    parts(rt, 
-        case, 2, 2, &x, nx, &z, nz, &phases, np, &vacuum, nv, &list, nl, &string, ns, room,
+    parts(
+        rt, case, 2, 2, &x, nx, &z, nz, &phases, np, &vacuum, nv, &list, nl, &string, ns, room,
     )
 }
 
 // The same, with these in place of the last X part, the first Z part, the last phase, the vacuum, the list and the string.
-fn changed(rt: &impl Print, case: &[u8], last: u64, first: u64, p: u8, v: u64, l: u64, s: u64) -> io::Result<()> {
+fn changed(
+    rt: &impl Print,
+    case: &[u8],
+    last: u64,
+    first: u64,
+    p: u8,
+    v: u64,
+    l: u64,
+    s: u64,
+) -> io::Result<()> {
     let x = [1u64, 1, 2, last];
     let z = [first, 1, 1, 3];
     let phases = [0u8, 1, 0, p];
@@ -214,7 +239,8 @@ fn changed(rt: &impl Print, case: &[u8], last: u64, first: u64, p: u8, v: u64, l
 }
 
 // 256 modes on 256 qubits, with so many words or phases of each slice. All rows are the identity, so X parts agree and d is 3, odd. Mode 255 is occupied if `top` is 2^63.
-fn largest(rt: &impl Print, 
+fn largest(
+    rt: &impl Print,
     case: &[u8],
     top: u64,
     nx: usize,
@@ -233,8 +259,8 @@ fn largest(rt: &impl Print,
     let vacuum = [0u64; 4];
     let list = [0u64, 0, 0, top];
     let string = [0u64; 4];
-    parts(rt, 
-        case, 256, 256, &x, nx, &z, nz, &phases, np, &vacuum, nv, &list, nl, &string, ns, room,
+    parts(
+        rt, case, 256, 256, &x, nx, &z, nz, &phases, np, &vacuum, nv, &list, nl, &string, ns, room,
     )
 }
 
@@ -270,7 +296,8 @@ fn bad_values(rt: &impl Print) -> io::Result<()> {
 
 fn largest_sizes(rt: &impl Print) -> io::Result<()> {
     largest(rt, b"256 modes", 0, 2048, 2048, 512, 4, 4, 4, 5)?;
-    largest(rt, 
+    largest(
+        rt,
         b"256 modes, the last occupied",
         9223372036854775808,
         2048,
@@ -281,9 +308,32 @@ fn largest_sizes(rt: &impl Print) -> io::Result<()> {
         4,
         5,
     )?;
-    largest(rt, b"256 modes, x one short", 0, 2047, 2048, 512, 4, 4, 4, 5)?;
-    largest(rt, b"256 modes, z one short", 0, 2048, 2047, 512, 4, 4, 4, 5)?;
-    largest(rt, 
+    largest(
+        rt,
+        b"256 modes, x one short",
+        0,
+        2047,
+        2048,
+        512,
+        4,
+        4,
+        4,
+        5,
+    )?;
+    largest(
+        rt,
+        b"256 modes, z one short",
+        0,
+        2048,
+        2047,
+        512,
+        4,
+        4,
+        4,
+        5,
+    )?;
+    largest(
+        rt,
         b"256 modes, phases one short",
         0,
         2048,
@@ -294,7 +344,8 @@ fn largest_sizes(rt: &impl Print) -> io::Result<()> {
         4,
         5,
     )?;
-    largest(rt, 
+    largest(
+        rt,
         b"256 modes, vacuum one short",
         0,
         2048,
@@ -305,8 +356,20 @@ fn largest_sizes(rt: &impl Print) -> io::Result<()> {
         4,
         5,
     )?;
-    largest(rt, b"256 modes, list one short", 0, 2048, 2048, 512, 4, 3, 4, 5)?;
-    largest(rt, 
+    largest(
+        rt,
+        b"256 modes, list one short",
+        0,
+        2048,
+        2048,
+        512,
+        4,
+        3,
+        4,
+        5,
+    )?;
+    largest(
+        rt,
         b"256 modes, string one short",
         0,
         2048,
@@ -317,7 +380,18 @@ fn largest_sizes(rt: &impl Print) -> io::Result<()> {
         3,
         5,
     )?;
-    largest(rt, b"256 modes, out one short", 0, 2048, 2048, 512, 4, 4, 4, 3)
+    largest(
+        rt,
+        b"256 modes, out one short",
+        0,
+        2048,
+        2048,
+        512,
+        4,
+        4,
+        4,
+        3,
+    )
 }
 
 fn main(rt: HostRuntime) -> io::Result<()> {

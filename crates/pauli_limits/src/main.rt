@@ -5,6 +5,7 @@
 #![tactic(auto)]
 
 use pauli::{Phase, Product};
+use std::io;
 
 fn wide(x: u8) -> u64 {
     x as u64
@@ -16,8 +17,7 @@ fn text(rt: &impl Print, s: &[u8]) -> io::Result<()> {
 
 // Writes a blank and a number.
 fn next(rt: &impl Print, k: u64) -> io::Result<()> {
-    text(rt, b" ")?;
-    print!(rt; "{k}")
+    print!(rt; " {k}")
 }
 
 // Starts a line with the case and the number handed back.
@@ -42,13 +42,14 @@ fn parts(rt: &impl Print, ox: &[u64; 2], oz: &[u64; 2]) -> io::Result<()> {
 fn commute(rt: &impl Print, yes: bool) -> io::Result<()> {
     if yes {
         text(rt, b", commute")
-} else {
+    } else {
         text(rt, b", anticommute")
-}
+    }
 }
 
 // A product's line, but for the parts.
-fn multiply(rt: &impl Print, 
+fn multiply(
+    rt: &impl Print,
     case: &[u8],
     columns: usize,
     left: u8,
@@ -68,7 +69,7 @@ fn multiply(rt: &impl Print,
             text(rt, b", phase")?;
             next(rt, wide(f.power))?;
             commute(rt, c)
-}
+        }
         Product::Refused(why) => head(rt, case, why.number()),
     }
 }
@@ -79,8 +80,8 @@ fn sized(rt: &impl Print, case: &[u8], columns: usize, left: u8, right: u8) -> i
     let none = [0u64; 2];
     let mut ox = [7u64; 2];
     let mut oz = [7u64; 2];
-    multiply(rt, 
-        case, columns, left, &one, &none, right, &one, &one, &mut ox, &mut oz,
+    multiply(
+        rt, case, columns, left, &one, &none, right, &one, &one, &mut ox, &mut oz,
     )?;
     parts(rt, &ox, &oz)
 }
@@ -92,15 +93,29 @@ fn sizes(rt: &impl Print) -> io::Result<()> {
     sized(rt, b"right phase 4", 1, 0, 4)?;
     sized(rt, b"0 columns", 0, 0, 1)?;
     sized(rt, b"257 columns", 257, 0, 1)?;
-    sized(rt, b"the largest number of columns", 18446744073709551615, 0, 1)
+    sized(
+        rt,
+        b"the largest number of columns",
+        18446744073709551615,
+        0,
+        1,
+    )
 }
 
 // Phases 0, and one word of each part that is read.
-fn words(rt: &impl Print, case: &[u8], columns: usize, lx: u64, lz: u64, rx: u64, rz: u64) -> io::Result<()> {
+fn words(
+    rt: &impl Print,
+    case: &[u8],
+    columns: usize,
+    lx: u64,
+    lz: u64,
+    rx: u64,
+    rz: u64,
+) -> io::Result<()> {
     let mut ox = [7u64; 2];
     let mut oz = [7u64; 2];
-    multiply(rt, 
-        case, columns, 0, &[lx; 1], &[lz; 1], 0, &[rx; 1], &[rz; 1], &mut ox, &mut oz,
+    multiply(
+        rt, case, columns, 0, &[lx; 1], &[lz; 1], 0, &[rx; 1], &[rz; 1], &mut ox, &mut oz,
     )?;
     parts(rt, &ox, &oz)
 }
@@ -112,7 +127,8 @@ fn strays(rt: &impl Print) -> io::Result<()> {
     words(rt, b"left Z part, bit 2 on 2 columns", 2, 0, 4, 0, 0)?;
     words(rt, b"right X part, bit 2 on 2 columns", 2, 0, 0, 4, 0)?;
     words(rt, b"right Z part, bit 2 on 2 columns", 2, 0, 0, 0, 4)?;
-    words(rt, 
+    words(
+        rt,
         b"X and Z at bit 63 on 64 columns",
         64,
         0x8000_0000_0000_0000,
@@ -120,7 +136,8 @@ fn strays(rt: &impl Print) -> io::Result<()> {
         0,
         0x8000_0000_0000_0000,
     )?;
-    words(rt, 
+    words(
+        rt,
         b"X and Z at bit 63 on 63 columns",
         63,
         0x8000_0000_0000_0000,
@@ -131,7 +148,14 @@ fn strays(rt: &impl Print) -> io::Result<()> {
 }
 
 // On 65 columns, with two words for each part of the product.
-fn lent(rt: &impl Print, case: &[u8], lx: &[u64], lz: &[u64], rx: &[u64], rz: &[u64]) -> io::Result<()> {
+fn lent(
+    rt: &impl Print,
+    case: &[u8],
+    lx: &[u64],
+    lz: &[u64],
+    rx: &[u64],
+    rz: &[u64],
+) -> io::Result<()> {
     let mut ox = [7u64; 2];
     let mut oz = [7u64; 2];
     multiply(rt, case, 65, 0, lx, lz, 0, rx, rz, &mut ox, &mut oz)?;
@@ -154,7 +178,8 @@ fn x_short(rt: &impl Print) -> io::Result<()> {
     let two = [1u64; 2];
     let mut ox = [7u64; 2];
     let mut oz = [7u64; 2];
-    multiply(rt, 
+    multiply(
+        rt,
         b"x short",
         65,
         0,
@@ -173,7 +198,8 @@ fn z_short(rt: &impl Print) -> io::Result<()> {
     let two = [1u64; 2];
     let mut ox = [7u64; 2];
     let mut oz = [7u64; 2];
-    multiply(rt, 
+    multiply(
+        rt,
         b"z short",
         65,
         0,

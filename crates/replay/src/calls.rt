@@ -8,6 +8,7 @@ use majorana::Encoded;
 use pauli::{Marked, Phase, Product};
 use products::RealMultiplied;
 use refusal::{Answer, Refusal};
+use std::io;
 use trees::Named;
 
 fn wide(k: u8) -> u64 {
@@ -61,20 +62,30 @@ fn answer(rt: &impl Print, a: Answer) -> io::Result<bool> {
     match a {
         Answer::Done => {
             text::number_out(rt, 0)?;
-            true
+            Ok(true)
         }
         Answer::Refused(why) => {
             refused(rt, why)?;
-            false
+            Ok(false)
         }
     }
 }
 
-pub fn solve(rt: &impl Print, n: usize, q: usize, x: &[u64], z: &[u64], p: &[u8]) -> io::Result<()> {
+pub fn solve(
+    rt: &impl Print,
+    n: usize,
+    q: usize,
+    x: &[u64],
+    z: &[u64],
+    p: &[u8],
+) -> io::Result<()> {
     let mut v = [7u64; 2];
     let mut room = [7u64; 384];
     let w = words_for(q);
-    if answer(rt, majorana::determine_vacuum_state(n, q, x, z, p, &mut v, &mut room))? {
+    if answer(
+        rt,
+        majorana::determine_vacuum_state(n, q, x, z, p, &mut v, &mut room),
+    )? {
         text::words_out(rt, &v, w)?;
     }
     Ok(())
@@ -90,12 +101,30 @@ pub fn new(rt: &impl Print, n: usize, q: usize, x: &[u64], z: &[u64], p: &[u8]) 
     Ok(())
 }
 
-pub fn check(rt: &impl Print, n: usize, q: usize, x: &[u64], z: &[u64], p: &[u8], v: &[u64]) -> io::Result<()> {
+pub fn check(
+    rt: &impl Print,
+    n: usize,
+    q: usize,
+    x: &[u64],
+    z: &[u64],
+    p: &[u8],
+    v: &[u64],
+) -> io::Result<()> {
     let mut room = [7u64; 1024];
-    answer(rt, majorana::check_rows(n, q, x, z, p, v, &mut room))
+    answer(rt, majorana::check_rows(n, q, x, z, p, v, &mut room))?;
+    Ok(())
 }
 
-pub fn encode(rt: &impl Print, n: usize, q: usize, x: &[u64], z: &[u64], p: &[u8], v: &[u64], list: &[u64]) -> io::Result<()> {
+pub fn encode(
+    rt: &impl Print,
+    n: usize,
+    q: usize,
+    x: &[u64],
+    z: &[u64],
+    p: &[u8],
+    v: &[u64],
+    list: &[u64],
+) -> io::Result<()> {
     let mut out = [7u64; 2];
     let w = words_for(q);
     match majorana::try_encode(n, q, x, z, p, v, list, &mut out) {
@@ -103,22 +132,42 @@ pub fn encode(rt: &impl Print, n: usize, q: usize, x: &[u64], z: &[u64], p: &[u8
             text::number_out(rt, 0)?;
             text::bytes_out(rt, &[f.power], 1)?;
             text::words_out(rt, &out, w)
-}
+        }
         Encoded::Refused(why) => refused(rt, why),
     }
 }
 
-pub fn decode(rt: &impl Print, n: usize, q: usize, x: &[u64], z: &[u64], p: &[u8], v: &[u64], string: &[u64]) -> io::Result<()> {
+pub fn decode(
+    rt: &impl Print,
+    n: usize,
+    q: usize,
+    x: &[u64],
+    z: &[u64],
+    p: &[u8],
+    v: &[u64],
+    string: &[u64],
+) -> io::Result<()> {
     let mut out = [7u64; 2];
     let w = words_for(n);
-    if answer(rt, majorana::decode_zbasis_state(n, q, x, z, p, v, string, &mut out))? {
+    if answer(
+        rt,
+        majorana::decode_zbasis_state(n, q, x, z, p, v, string, &mut out),
+    )? {
         text::words_out(rt, &out, w)?;
     }
     Ok(())
 }
 
 // Writes a row set and its vacuum.
-fn rows_out(rt: &impl Print, n: usize, q: usize, x: &[u64], z: &[u64], p: &[u8], v: &[u64]) -> io::Result<()> {
+fn rows_out(
+    rt: &impl Print,
+    n: usize,
+    q: usize,
+    x: &[u64],
+    z: &[u64],
+    p: &[u8],
+    v: &[u64],
+) -> io::Result<()> {
     let k = row_words(n, q);
     text::words_out(rt, x, k)?;
     text::words_out(rt, z, k)?;
@@ -127,7 +176,8 @@ fn rows_out(rt: &impl Print, n: usize, q: usize, x: &[u64], z: &[u64], p: &[u8],
 }
 
 // The map stands in the text after the vacuum; where it ends.
-pub fn enumerate(rt: &impl Print, 
+pub fn enumerate(
+    rt: &impl Print,
     s: &[u8],
     from: usize,
     n: usize,
@@ -144,12 +194,15 @@ pub fn enumerate(rt: &impl Print,
     let mut op = [7u8; 256];
     let mut ov = [7u64; 2];
     let mut room = [7u64; 1024];
-    if answer(rt, enumeration::apply_mode_enumeration(
-        n, q, x, z, p, v, &map, &mut ox, &mut oz, &mut op, &mut ov, &mut room,
-    ))? {
+    if answer(
+        rt,
+        enumeration::apply_mode_enumeration(
+            n, q, x, z, p, v, &map, &mut ox, &mut oz, &mut op, &mut ov, &mut room,
+        ),
+    )? {
         rows_out(rt, n, q, &ox, &oz, &op, &ov)?;
     }
-    at
+    Ok(at)
 }
 
 // The power of i that took 1 to a marked number.
@@ -170,7 +223,16 @@ fn power(c: Marked) -> u8 {
     }
 }
 
-fn multiply(rt: &impl Print, n: usize, q: usize, x: &[u64], z: &[u64], p: &[u8], numbers: &[usize], k: usize) -> io::Result<()> {
+fn multiply(
+    rt: &impl Print,
+    n: usize,
+    q: usize,
+    x: &[u64],
+    z: &[u64],
+    p: &[u8],
+    numbers: &[usize],
+    k: usize,
+) -> io::Result<()> {
     let mut ox = [7u64; 2];
     let mut oz = [7u64; 2];
     let w = words_for(q);
@@ -181,19 +243,28 @@ fn multiply(rt: &impl Print, n: usize, q: usize, x: &[u64], z: &[u64], p: &[u8],
             text::bytes_out(rt, &[power(c)], 1)?;
             text::words_out(rt, &ox, w)?;
             text::words_out(rt, &oz, w)
-}
+        }
         RealMultiplied::Refused(why) => refused(rt, why),
     }
 }
 
 // The row numbers stand in the text, after how many there are, at most 16; where they end. The coefficient is 1.
-pub fn product(rt: &impl Print, s: &[u8], from: usize, n: usize, q: usize, x: &[u64], z: &[u64], p: &[u8]) -> io::Result<usize> {
+pub fn product(
+    rt: &impl Print,
+    s: &[u8],
+    from: usize,
+    n: usize,
+    q: usize,
+    x: &[u64],
+    z: &[u64],
+    p: &[u8],
+) -> io::Result<usize> {
     let mut numbers = [0usize; 16];
     let count = text::number_in(s, from);
     let k = (count.value % 17) as usize;
     let at = text::numbers_in(s, count.next, &mut numbers, k);
     multiply(rt, n, q, x, z, p, &numbers, k)?;
-    at
+    Ok(at)
 }
 
 // 1 for yes, 0 for no.
@@ -201,7 +272,16 @@ fn yes(b: bool) -> u8 {
     b as u8
 }
 
-fn multiply_rows(rt: &impl Print, q: usize, left: u8, lx: &[u64], lz: &[u64], right: u8, rx: &[u64], rz: &[u64]) -> io::Result<()> {
+fn multiply_rows(
+    rt: &impl Print,
+    q: usize,
+    left: u8,
+    lx: &[u64],
+    lz: &[u64],
+    right: u8,
+    rx: &[u64],
+    rz: &[u64],
+) -> io::Result<()> {
     let l = Phase { power: left };
     let r = Phase { power: right };
     let mut ox = [7u64; 2];
@@ -213,7 +293,7 @@ fn multiply_rows(rt: &impl Print, q: usize, left: u8, lx: &[u64], lz: &[u64], ri
             text::bytes_out(rt, &[f.power, yes(c)], 2)?;
             text::words_out(rt, &ox, w)?;
             text::words_out(rt, &oz, w)
-}
+        }
         Product::Refused(why) => refused(rt, why),
     }
 }
@@ -233,7 +313,7 @@ pub fn pair(rt: &impl Print, s: &[u8], from: usize, q: usize) -> io::Result<usiz
     let e = text::words_in(s, d, &mut rx, 2);
     let end = text::words_in(s, e, &mut rz, 2);
     multiply_rows(rt, q, left[0], &lx, &lz, right[0], &rx, &rz)?;
-    end
+    Ok(end)
 }
 
 pub fn maxnto(rt: &impl Print, n: usize) -> io::Result<()> {
@@ -270,51 +350,79 @@ pub fn named(rt: &impl Print, tree: u64, n: usize, q: usize) -> io::Result<()> {
     let mut p = [7u8; 256];
     let mut v = [7u64; 2];
     let mut room = [7u64; 1024];
-    if answer(rt, ternarytree::from_name(
-        tree_of(tree),
-        n,
-        q,
-        &mut x,
-        &mut z,
-        &mut p,
-        &mut v,
-        &mut room,
-    ))? {
+    if answer(
+        rt,
+        ternarytree::from_name(
+            tree_of(tree),
+            n,
+            q,
+            &mut x,
+            &mut z,
+            &mut p,
+            &mut v,
+            &mut room,
+        ),
+    )? {
         rows_out(rt, n, n, &x, &z, &p, &v)?;
     }
     Ok(())
 }
 
-fn with_leaves(rt: &impl Print, n: usize, q: usize, entries: &[usize], filled: &[bool]) -> io::Result<()> {
+fn with_leaves(
+    rt: &impl Print,
+    n: usize,
+    q: usize,
+    entries: &[usize],
+    filled: &[bool],
+) -> io::Result<()> {
     let mut x = [7u64; 512];
     let mut z = [7u64; 512];
     let mut p = [7u8; 256];
     let mut v = [7u64; 2];
     let mut room = [7u64; 1024];
-    if answer(rt, ternarytree::from_flatpack(
-        n, q, entries, filled, &mut x, &mut z, &mut p, &mut v, &mut room,
-    ))? {
+    if answer(
+        rt,
+        ternarytree::from_flatpack(
+            n, q, entries, filled, &mut x, &mut z, &mut p, &mut v, &mut room,
+        ),
+    )? {
         rows_out(rt, n, q, &x, &z, &p, &v)?;
     }
     Ok(())
 }
 
-fn naive(rt: &impl Print, n: usize, q: usize, entries: &[usize], filled: &[bool]) -> io::Result<()> {
+fn naive(
+    rt: &impl Print,
+    n: usize,
+    q: usize,
+    entries: &[usize],
+    filled: &[bool],
+) -> io::Result<()> {
     let mut x = [7u64; 512];
     let mut z = [7u64; 512];
     let mut p = [7u8; 256];
     let mut v = [7u64; 2];
     let mut room = [7u64; 1024];
-    if answer(rt, ternarytree::from_flatpack_naive(
-        n, q, entries, filled, &mut x, &mut z, &mut p, &mut v, &mut room,
-    ))? {
+    if answer(
+        rt,
+        ternarytree::from_flatpack_naive(
+            n, q, entries, filled, &mut x, &mut z, &mut p, &mut v, &mut room,
+        ),
+    )? {
         rows_out(rt, n, q, &x, &z, &p, &v)?;
     }
     Ok(())
 }
 
 // The entries stand in the text, four numbers each, and then which slots are filled; where they end.
-pub fn flatpack(rt: &impl Print, leaves: bool, s: &[u8], from: usize, n: usize, q: usize) -> io::Result<usize> {
+pub fn flatpack(
+    rt: &impl Print,
+    leaves: bool,
+    s: &[u8],
+    from: usize,
+    n: usize,
+    q: usize,
+) -> io::Result<usize> {
     let mut entries = [0usize; 512];
     let mut filled = [false; 384];
     let rows = row_count(n);
@@ -325,5 +433,5 @@ pub fn flatpack(rt: &impl Print, leaves: bool, s: &[u8], from: usize, n: usize, 
     } else {
         naive(rt, n, q, &entries, &filled)?;
     }
-    at
+    Ok(at)
 }

@@ -10,8 +10,14 @@
 mod calls; // calls.rt: each call, and its answer written
 mod text; // text.rt: numbers read and written
 
+ghost use Rattle.std.specs.Prelude.{◌≤◌, length, IfOk};
+
+use std::io;
+use std::io::Read;
+
 // A call on a row set whose parts are read, and where the case ends.
-fn on_set(rt: &impl Print, 
+fn on_set(
+    rt: &impl Print,
     call: u64,
     s: &[u8],
     from: usize,
@@ -48,11 +54,18 @@ fn on_set(rt: &impl Print,
     } else {
         calls::decode(rt, n, q, x, z, p, &v, &b)?;
     }
-    end
+    Ok(end)
 }
 
 // The row set of a case, and the call on it.
-fn with_rows(rt: &impl Print, call: u64, s: &[u8], from: usize, n: usize, q: usize) -> io::Result<usize> {
+fn with_rows(
+    rt: &impl Print,
+    call: u64,
+    s: &[u8],
+    from: usize,
+    n: usize,
+    q: usize,
+) -> io::Result<usize> {
     let mut x = [0u64; 512];
     let mut z = [0u64; 512];
     let mut p = [0u8; 256];
@@ -60,7 +73,7 @@ fn with_rows(rt: &impl Print, call: u64, s: &[u8], from: usize, n: usize, q: usi
     let xs = text::words_in(s, from, &mut x, k);
     let zs = text::words_in(s, xs, &mut z, k);
     let ps = text::bytes_in(s, zs, &mut p, calls::row_count(n));
-    on_set(rt, call, s, ps, n, q, &x, &z, &p)?
+    on_set(rt, call, s, ps, n, q, &x, &z, &p)
 }
 
 // One case; where it ends.
@@ -85,7 +98,7 @@ fn one(rt: &impl Print, s: &[u8], from: usize) -> io::Result<usize> {
     if call.value == 11 {
         return calls::pair(rt, s, q.next, qubits);
     }
-    calls::flatpack(rt, call.value == 9, s, q.next, modes, qubits)?
+    calls::flatpack(rt, call.value == 9, s, q.next, modes, qubits)
 }
 
 // Every case of a text, of at most 65536; how many there are.
@@ -101,13 +114,28 @@ fn replay(rt: &impl Print, s: &[u8]) -> io::Result<u64> {
         text::line_out(rt)?;
         cases += 1;
     }
-    cases
+    Ok(cases)
+}
+
+// Reads until s is full or the input ends; how many bytes there are.
+fn read_full(input: &mut impl Read, s: &mut [u8]) -> io::Result<usize>
+    ensures { IfOk result (λ n. n ≤ length s.new) }
+{
+    let mut done = 0;
+    while done < s.len() {
+        let n = input.read(&mut s[done..])?;
+        if n == 0 {
+            break;
+        }
+        done += n;
+    }
+    Ok(done)
 }
 
 fn main(rt: HostRuntime) -> io::Result<()> {
-    let mut s = io::large_buffer();
-    let n = io::read_full(0, &mut s);
+    let mut s = [0u8; 65536];
+    let mut input = rt.stdin();
+    let n = read_full(&mut input, &mut s)?;
     let cases = replay(&rt, &s[..n])?;
-    print!(&rt; "{cases}")?;
-    rt.write_all(b" cases\n")
+    println!(rt; "{cases} cases")
 }

@@ -2,6 +2,8 @@
 
 ghost use Rattle.std.specs.Prelude.{◌≤◌};
 
+use std::io;
+
 // A number, and where it ends in the text.
 #[derive(Clone, Copy)]
 pub struct Word {

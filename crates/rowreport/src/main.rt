@@ -6,8 +6,8 @@
 ghost use Rattle.std.specs.Prelude.{◌≡◌};
 ghost use Rattle.rowreport.specs.Reads.{Turned, Gathered};
 
-use libc::{STDERR_FILENO, STDIN_FILENO, STDOUT_FILENO};
 use rowreport_core::Reading;
+use std::io::Read;
 
 // What a read of standard input comes to.
 #[derive(Clone, Copy)]
@@ -35,18 +35,16 @@ struct Whole {
 }
 
 // Reads one chunk and takes it.
-fn take_some(r: Reading) -> Turn
+fn take_some(input: &mut impl Read, r: Reading) -> Turn
     ensures { Turned r result.step result.reading }
 {
     let mut chunk = [0u8; 512];
-    let got = libc::read(STDIN_FILENO, &mut chunk);
-    if got < 0 {
+    let Ok(n) = input.read(&mut chunk) else {
         return Turn {
             reading: r,
             step: Step::Failed,
         };
-    }
-    let n = io::count(got, &chunk);
+    };
     if n == 0 {
         return Turn {
             reading: r,
@@ -60,13 +58,13 @@ fn take_some(r: Reading) -> Turn
 }
 
 // Reads to the end. A proved loop has to end, and nothing says that a text does: so it counts, as far as a number that no run reaches.
-fn take_all() -> Whole
+fn take_all(input: &mut impl Read) -> Whole
     ensures { Gathered result }
 {
     let mut reading = rowreport_core::begin();
     let mut chunks = 0;
     while chunks < u64::MAX {
-        let turn = take_some(reading);
+        let turn = take_some(input, reading);
         let held = turn.reading;
         let step = turn.step;
         match step {
@@ -98,47 +96,44 @@ fn take_all() -> Whole
 }
 
 // Writes the first k bytes of the text for standard output: all of them, or it says that it could not.
-fn to_output(text: &[u8; 164480], k: usize) -> bool {
+fn to_output(output: &impl Print, text: &[u8; 164480], k: usize) -> bool {
     let bytes: &[u8] = text;
     if k <= bytes.len() {
-        return io::write_all(STDOUT_FILENO, &bytes[..k]);
+        return output.write_all(&bytes[..k]).is_ok();
     }
     false
 }
 
 // The same of the text for standard error.
-fn to_error(text: &[u8; 256], k: usize) -> bool {
+fn to_error(error: &impl Print, text: &[u8; 256], k: usize) -> bool {
     let bytes: &[u8] = text;
     if k <= bytes.len() {
-        return io::write_all(STDERR_FILENO, &bytes[..k]);
+        return error.write_all(&bytes[..k]).is_ok();
     }
     false
 }
 
 // Writes what is answered to a text.
-fn answer(r: Reading) {
-    let mut output = [0u8; 164480];
-    let mut error = [0u8; 256];
-    let lengths = rowreport_core::texts(r, &mut output, &mut error);
-    if to_output(&output, lengths.output) {
-        to_error(&error, lengths.error);
+fn answer(output: &impl Print, error: &impl Print, r: Reading) {
+    let mut report = [0u8; 164480];
+    let mut sentence = [0u8; 256];
+    let lengths = rowreport_core::texts(r, &mut report, &mut sentence);
+    if to_output(output, &report, lengths.output) {
+        to_error(error, &sentence, lengths.error);
     } else {
-        io::write_all(
-            STDERR_FILENO,
-            b"rowreport: standard output cannot be written.\n",
-        );
+        let _ = error.write_all(b"rowreport: standard output cannot be written.\n");
     }
 }
 
-fn main() {
-    let whole = take_all();
+fn main(rt: HostRuntime) {
+    let mut input = rt.stdin();
+    let output = rt.stdout();
+    let error = rt.stderr();
+    let whole = take_all(&mut input);
     if whole.failed {
-        io::write_all(
-            STDERR_FILENO,
-            b"rowreport: standard input cannot be read.\n",
-        );
+        let _ = error.write_all(b"rowreport: standard input cannot be read.\n");
         return;
     }
     let r = whole.reading;
-    answer(r);
+    answer(&output, &error, r);
 }

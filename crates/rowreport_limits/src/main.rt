@@ -9,6 +9,7 @@ use flatpack_text::read;
 use flatpack_text::read::State;
 use refusal::Answer;
 use report::reply;
+use std::io;
 
 fn wide(x: usize) -> u64 {
     x as u64
@@ -36,9 +37,8 @@ fn answer(rt: &impl Print, case: &[u8], s: State, table: &[usize]) -> io::Result
 
 // A number and the byte after it.
 fn feed_number(s: State, v: u64, end: u8, table: &mut [usize]) -> State {
-    let mut digits = [0u8; 20];
-    let k = io::decimal(v, &mut digits);
-    let t = read::feed(s, &digits[..k], table);
+    let mut digits = itoa::Buffer::new();
+    let t = read::feed(s, digits.format(v).as_bytes(), table);
     read::feed(t, &[end], table)
 }
 
@@ -117,12 +117,14 @@ fn long_texts(rt: &impl Print) -> io::Result<()> {
     chain(rt, b"256 entries", 256)?;
     chain(rt, b"257 entries", 257)?;
     after_good(rt, b"100,000 good lines", 100000, b"")?;
-    after_good(rt, 
+    after_good(
+        rt,
         b"100,000 good lines and then a bad one",
         100000,
         b"0\t1\t2\n",
     )?;
-    before_good(rt, 
+    before_good(
+        rt,
         b"a bad line and then 100,000 good ones",
         b"0\t1\t2\n",
         100000,

@@ -9,6 +9,7 @@ use majorana::Encoded;
 use pauli::Marked;
 use products::RealMultiplied;
 use refusal::{Answer, Refusal};
+use std::io;
 use trees::Named;
 
 fn wide(x: u8) -> u64 {
@@ -49,7 +50,12 @@ fn head(rt: &impl Print, case: &[u8], n: usize, r: u8) -> io::Result<()> {
 }
 
 // The first two rows, of one word, with their phases.
-fn two_rows(rt: &impl Print, x: &[u64; 2048], z: &[u64; 2048], phases: &[u8; 512]) -> io::Result<()> {
+fn two_rows(
+    rt: &impl Print,
+    x: &[u64; 2048],
+    z: &[u64; 2048],
+    phases: &[u8; 512],
+) -> io::Result<()> {
     text(rt, b", p x z")?;
     next(rt, wide(phases[0]))?;
     next(rt, x[0])?;
@@ -61,7 +67,12 @@ fn two_rows(rt: &impl Print, x: &[u64; 2048], z: &[u64; 2048], phases: &[u8; 512
 }
 
 // The two behind them.
-fn two_more(rt: &impl Print, x: &[u64; 2048], z: &[u64; 2048], phases: &[u8; 512]) -> io::Result<()> {
+fn two_more(
+    rt: &impl Print,
+    x: &[u64; 2048],
+    z: &[u64; 2048],
+    phases: &[u8; 512],
+) -> io::Result<()> {
     text(rt, b",")?;
     next(rt, wide(phases[2]))?;
     next(rt, x[2])?;
@@ -144,7 +155,15 @@ fn maxnto(rt: &impl Print, n: usize) -> io::Result<()> {
 }
 
 // Encodes a list at vacuum 0.
-fn encode(rt: &impl Print, case: &[u8], n: usize, x: &[u64], z: &[u64], phases: &[u8], list: u64) -> io::Result<()> {
+fn encode(
+    rt: &impl Print,
+    case: &[u8],
+    n: usize,
+    x: &[u64],
+    z: &[u64],
+    phases: &[u8],
+    list: u64,
+) -> io::Result<()> {
     let mut out = [9u64; 1];
     let lent = [list; 1];
     let vacuum = [0u64; 1];
@@ -162,7 +181,15 @@ fn encode(rt: &impl Print, case: &[u8], n: usize, x: &[u64], z: &[u64], phases: 
 }
 
 // Decodes a string at vacuum 0.
-fn decode(rt: &impl Print, case: &[u8], n: usize, x: &[u64], z: &[u64], phases: &[u8], string: u64) -> io::Result<()> {
+fn decode(
+    rt: &impl Print,
+    case: &[u8],
+    n: usize,
+    x: &[u64],
+    z: &[u64],
+    phases: &[u8],
+    string: u64,
+) -> io::Result<()> {
     let mut out = [9u64; 1];
     let lent = [string; 1];
     let vacuum = [0u64; 1];
@@ -211,11 +238,11 @@ fn marked(rt: &impl Print, m: Marked) -> io::Result<()> {
         Marked::Real(c) => {
             text(rt, b", real")?;
             sign(rt, c)
-}
+        }
         Marked::Imag(c) => {
             text(rt, b", imaginary")?;
             sign(rt, c)
-}
+        }
     }
 }
 
@@ -257,9 +284,9 @@ fn common(rt: &impl Print, case: &[u8], odd: bool) -> io::Result<()> {
     text(rt, case)?;
     if odd {
         text(rt, b": odd\n")
-} else {
+    } else {
         text(rt, b": even\n")
-}
+    }
 }
 
 // Of two rows, and of two pairs together.
@@ -282,12 +309,14 @@ fn parities(rt: &impl Print) -> io::Result<()> {
     common(rt, b"words 1 1 1 and 1", dense_block::parity_and(&c, &d))?;
     common(rt, b"words 1 1 and 1 1 1", dense_block::parity_and(&a, &c))?;
     let alike = dense_block::fold_both(&a, &a, &a, &b);
-    common(rt, 
+    common(
+        rt,
         b"words 1 1 and 1 1, 1 1 and 1 0",
         dense_block::parity(alike),
     )?;
     let unlike = dense_block::fold_both(&a, &b, &d, &c);
-    common(rt, 
+    common(
+        rt,
         b"words 1 1 and 1 0, 1 and 1 1 1",
         dense_block::parity(unlike),
     )

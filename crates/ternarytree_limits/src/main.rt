@@ -7,9 +7,11 @@ mod tell; // tell.rt: what is written
 
 ghost use Rattle.std.specs.Prelude.{◌≤◌, length};
 
+use std::io;
 use trees::Named;
 
-fn named(rt: &impl Print, 
+fn named(
+    rt: &impl Print,
     case: &[u8],
     tree: Named,
     modes: usize,
@@ -42,7 +44,8 @@ fn grown(rt: &impl Print, case: &[u8], tree: Named, modes: usize, qubits: usize)
     let mut phases = [7u8; 513];
     let mut vacuum = [7u64; 5];
     let mut room = [7u64; 4097];
-    named(rt, 
+    named(
+        rt,
         case,
         tree,
         modes,
@@ -64,7 +67,15 @@ fn four(rt: &impl Print, case: &[u8], modes: usize, qubits: usize) -> io::Result
 }
 
 // Bravyi-Kitaev on 65 modes, whose rows take two words, with so many words or phases of each slice.
-fn named_cut(rt: &impl Print, case: &[u8], nx: usize, nz: usize, np: usize, nv: usize, nr: usize) -> io::Result<()>
+fn named_cut(
+    rt: &impl Print,
+    case: &[u8],
+    nx: usize,
+    nz: usize,
+    np: usize,
+    nv: usize,
+    nr: usize,
+) -> io::Result<()>
     requires { (nx ≤ 260) × (nz ≤ 260) × (np ≤ 130) × (nv ≤ 2) × (nr ≤ 520) }
 {
     let mut x = [7u64; 260];
@@ -72,7 +83,8 @@ fn named_cut(rt: &impl Print, case: &[u8], nx: usize, nz: usize, np: usize, nv: 
     let mut phases = [7u8; 130];
     let mut vacuum = [7u64; 2];
     let mut room = [7u64; 520];
-    named(rt, 
+    named(
+        rt,
         case,
         Named::BravyiKitaev,
         65,
@@ -85,7 +97,8 @@ fn named_cut(rt: &impl Print, case: &[u8], nx: usize, nz: usize, np: usize, nv: 
     )
 }
 
-fn flat(rt: &impl Print, 
+fn flat(
+    rt: &impl Print,
     case: &[u8],
     modes: usize,
     qubits: usize,
@@ -112,7 +125,8 @@ fn flat(rt: &impl Print,
     tell::left(rt, x, z, phases, vacuum, room)
 }
 
-fn naive(rt: &impl Print, 
+fn naive(
+    rt: &impl Print,
     case: &[u8],
     modes: usize,
     qubits: usize,
@@ -140,13 +154,21 @@ fn naive(rt: &impl Print,
 }
 
 // A flatpack of at most two entries with leaves, in slices that are one longer than two entries need.
-fn packed(rt: &impl Print, case: &[u8], modes: usize, qubits: usize, entries: &[usize], filled: &[bool]) -> io::Result<()> {
+fn packed(
+    rt: &impl Print,
+    case: &[u8],
+    modes: usize,
+    qubits: usize,
+    entries: &[usize],
+    filled: &[bool],
+) -> io::Result<()> {
     let mut x = [7u64; 5];
     let mut z = [7u64; 5];
     let mut phases = [7u8; 5];
     let mut vacuum = [7u64; 2];
     let mut room = [7u64; 9];
-    flat(rt, 
+    flat(
+        rt,
         case,
         modes,
         qubits,
@@ -161,13 +183,21 @@ fn packed(rt: &impl Print, case: &[u8], modes: usize, qubits: usize, entries: &[
 }
 
 // The same, naive.
-fn plain(rt: &impl Print, case: &[u8], modes: usize, qubits: usize, entries: &[usize], filled: &[bool]) -> io::Result<()> {
+fn plain(
+    rt: &impl Print,
+    case: &[u8],
+    modes: usize,
+    qubits: usize,
+    entries: &[usize],
+    filled: &[bool],
+) -> io::Result<()> {
     let mut x = [7u64; 5];
     let mut z = [7u64; 5];
     let mut phases = [7u8; 5];
     let mut vacuum = [7u64; 2];
     let mut room = [7u64; 9];
-    naive(rt, 
+    naive(
+        rt,
         case,
         modes,
         qubits,
@@ -181,13 +211,30 @@ fn plain(rt: &impl Print, case: &[u8], modes: usize, qubits: usize, entries: &[u
     )
 }
 
-fn both(rt: &impl Print, case: &[u8], modes: usize, qubits: usize, entries: &[usize], filled: &[bool]) -> io::Result<()> {
+fn both(
+    rt: &impl Print,
+    case: &[u8],
+    modes: usize,
+    qubits: usize,
+    entries: &[usize],
+    filled: &[bool],
+) -> io::Result<()> {
     packed(rt, case, modes, qubits, entries, filled)?;
     plain(rt, case, modes, qubits, entries, filled)
 }
 
 // One entry, with so many of each slice.
-fn cut(rt: &impl Print, case: &[u8], ne: usize, nf: usize, nx: usize, nz: usize, np: usize, nv: usize, nr: usize) -> io::Result<()>
+fn cut(
+    rt: &impl Print,
+    case: &[u8],
+    ne: usize,
+    nf: usize,
+    nx: usize,
+    nz: usize,
+    np: usize,
+    nv: usize,
+    nr: usize,
+) -> io::Result<()>
     requires { (ne ≤ 4) × (nf ≤ 3) × (nx ≤ 2) × (nz ≤ 2) × (np ≤ 2) × (nv ≤ 1) × (nr ≤ 4) }
 {
     let entries = [0usize, 1, 2, 0];
@@ -197,7 +244,8 @@ fn cut(rt: &impl Print, case: &[u8], ne: usize, nf: usize, nx: usize, nz: usize,
     let mut phases = [7u8; 2];
     let mut vacuum = [7u64; 1];
     let mut room = [7u64; 4];
-    flat(rt, 
+    flat(
+        rt,
         case,
         1,
         1,
@@ -236,7 +284,12 @@ fn sizes(rt: &impl Print) -> io::Result<()> {
     four(rt, b"255 modes", 255, 256)?;
     four(rt, b"256 modes", 256, 256)?;
     four(rt, b"257 modes", 257, 257)?;
-    four(rt, b"the largest number of modes", 18446744073709551615, 256)?;
+    four(
+        rt,
+        b"the largest number of modes",
+        18446744073709551615,
+        256,
+    )?;
     four(rt, b"0 qubits", 1, 0)?;
     four(rt, b"257 qubits", 1, 257)?;
     four(rt, b"one qubit fewer than modes", 256, 255)?;
@@ -244,13 +297,31 @@ fn sizes(rt: &impl Print) -> io::Result<()> {
 }
 
 // One entry of qubit 0, whose Z slot is empty.
-fn one_entry(rt: &impl Print, case: &[u8], modes: usize, qubits: usize, q: usize, x: usize, y: usize) -> io::Result<()> {
+fn one_entry(
+    rt: &impl Print,
+    case: &[u8],
+    modes: usize,
+    qubits: usize,
+    q: usize,
+    x: usize,
+    y: usize,
+) -> io::Result<()> {
     both(rt, case, modes, qubits, &[q, x, y, 0], &[true, true, false])
 }
 
 // Two entries, of qubits 0 and b, with all slots filled but the last.
-fn two_entries(rt: &impl Print, case: &[u8], b: usize, x: usize, y: usize, z: usize, u: usize, v: usize) -> io::Result<()> {
-    both(rt, 
+fn two_entries(
+    rt: &impl Print,
+    case: &[u8],
+    b: usize,
+    x: usize,
+    y: usize,
+    z: usize,
+    u: usize,
+    v: usize,
+) -> io::Result<()> {
+    both(
+        rt,
         case,
         2,
         64,
@@ -270,7 +341,8 @@ fn flatpacks(rt: &impl Print) -> io::Result<()> {
     one_entry(rt, b"qubit 255", 1, 64, 255, 256, 257)?;
     one_entry(rt, b"qubit 256", 1, 64, 256, 257, 258)?;
     one_entry(rt, b"X slot 513", 1, 1, 0, 513, 2)?;
-    one_entry(rt, 
+    one_entry(
+        rt,
         b"X slot the largest number",
         1,
         1,
@@ -286,21 +358,24 @@ fn flatpacks(rt: &impl Print) -> io::Result<()> {
     two_entries(rt, b"a number below the largest qubit", 9, 8, 10, 9, 11, 12)?;
     two_entries(rt, b"a cycle with leaves below it", 1, 2, 3, 1, 0, 5)?;
     two_entries(rt, b"a leaf used twice", 1, 2, 2, 1, 4, 5)?;
-    both(rt, 
+    both(
+        rt,
         b"a cycle",
         2,
         64,
         &[0, 0, 0, 1, 1, 0, 0, 0],
         &[false, false, true, false, false, true],
     )?;
-    both(rt, 
+    both(
+        rt,
         b"two roots",
         2,
         64,
         &[0, 2, 3, 0, 1, 4, 5, 0],
         &[true, true, false, true, true, false],
     )?;
-    both(rt, 
+    both(
+        rt,
         b"a missing leaf",
         2,
         64,

@@ -3,6 +3,7 @@
 ghost use Rattle.std.specs.Prelude.{◌≤◌, length};
 
 use refusal::Answer;
+use std::io;
 use trees::Named;
 
 fn wide(x: u8) -> u64 {
@@ -11,8 +12,7 @@ fn wide(x: u8) -> u64 {
 
 // Writes a blank and a number.
 fn next(rt: &impl Print, k: u64) -> io::Result<()> {
-    rt.write_all(b" ")?;
-    print!(rt; "{k}")
+    print!(rt; " {k}")
 }
 
 // Writes the words of s, a blank before each.
@@ -83,23 +83,22 @@ pub fn head(rt: &impl Print, call: &[u8], case: &[u8], r: Answer) -> io::Result<
 // Writes the name of a named tree.
 pub fn name(rt: &impl Print, tree: Named) -> io::Result<()> {
     match tree {
-        Named::JordanWigner => {
-            rt.write_all(b"Jordan-Wigner")
-}
-        Named::Parity => {
-            rt.write_all(b"parity")
-}
-        Named::BravyiKitaev => {
-            rt.write_all(b"Bravyi-Kitaev")
-}
-        Named::Jkmn => {
-            rt.write_all(b"JKMN")
-}
+        Named::JordanWigner => rt.write_all(b"Jordan-Wigner"),
+        Named::Parity => rt.write_all(b"parity"),
+        Named::BravyiKitaev => rt.write_all(b"Bravyi-Kitaev"),
+        Named::Jkmn => rt.write_all(b"JKMN"),
     }
 }
 
 // Writes how much of each slice is 0 and how much 7.
-pub fn tally(rt: &impl Print, x: &[u64], z: &[u64], phases: &[u8], vacuum: &[u64], room: &[u64]) -> io::Result<()> {
+pub fn tally(
+    rt: &impl Print,
+    x: &[u64],
+    z: &[u64],
+    phases: &[u8],
+    vacuum: &[u64],
+    room: &[u64],
+) -> io::Result<()> {
     rt.write_all(b", x")?;
     counts(rt, x)?;
     rt.write_all(b", z")?;
@@ -115,7 +114,14 @@ pub fn tally(rt: &impl Print, x: &[u64], z: &[u64], phases: &[u8], vacuum: &[u64
 }
 
 // Writes what is left after a call.
-pub fn left(rt: &impl Print, x: &[u64], z: &[u64], phases: &[u8], vacuum: &[u64], room: &[u64]) -> io::Result<()> {
+pub fn left(
+    rt: &impl Print,
+    x: &[u64],
+    z: &[u64],
+    phases: &[u8],
+    vacuum: &[u64],
+    room: &[u64],
+) -> io::Result<()> {
     rt.write_all(b", x")?;
     words(rt, x)?;
     rt.write_all(b", z")?;

@@ -6,6 +6,7 @@
 use pauli::Coefficient;
 use products::{Multiplied, RealMultiplied};
 use refusal::{Answer, Refusal};
+use std::io;
 
 fn wide(x: u8) -> u64 {
     x as u64
@@ -17,8 +18,7 @@ fn wider(x: usize) -> u64 {
 
 // Writes a blank and a number.
 fn next(rt: &impl Print, k: u64) -> io::Result<()> {
-    rt.write_all(b" ")?;
-    print!(rt; "{k}")
+    print!(rt; " {k}")
 }
 
 // Writes a name and the words of s, a blank before each.
@@ -61,7 +61,14 @@ fn pair(rt: &impl Print, why: Refusal) -> io::Result<()> {
 }
 
 // A line: the answer and what was left.
-fn line(rt: &impl Print, call: &[u8], case: &[u8], r: Answer, v: &[u64], room: &[u64]) -> io::Result<()> {
+fn line(
+    rt: &impl Print,
+    call: &[u8],
+    case: &[u8],
+    r: Answer,
+    v: &[u64],
+    room: &[u64],
+) -> io::Result<()> {
     head(rt, call, case, r.number())?;
     if let Answer::Refused(why) = r {
         pair(rt, why)?;
@@ -72,7 +79,8 @@ fn line(rt: &impl Print, call: &[u8], case: &[u8], r: Answer, v: &[u64], room: &
 }
 
 // The row check with `vacuum`, then solving and `new` into v, each with the buffers at 7.
-fn three(rt: &impl Print, 
+fn three(
+    rt: &impl Print,
     case: &[u8],
     modes: usize,
     qubits: usize,
@@ -104,13 +112,20 @@ fn sized(rt: &impl Print, case: &[u8], modes: usize, qubits: usize) -> io::Resul
     let vacuum = [0u64; 1];
     let mut v = [7u64; 2];
     let mut room = [7u64; 9];
-    three(rt, 
-        case, modes, qubits, &x, &z, &phases, &vacuum, &mut v, &mut room,
+    three(
+        rt, case, modes, qubits, &x, &z, &phases, &vacuum, &mut v, &mut room,
     )
 }
 
 // The same, with these slices.
-fn lent(rt: &impl Print, case: &[u8], x: &[u64], z: &[u64], phases: &[u8], vacuum: &[u64]) -> io::Result<()> {
+fn lent(
+    rt: &impl Print,
+    case: &[u8],
+    x: &[u64],
+    z: &[u64],
+    phases: &[u8],
+    vacuum: &[u64],
+) -> io::Result<()> {
     let mut v = [7u64; 2];
     let mut room = [7u64; 9];
     three(rt, case, 2, 2, x, z, phases, vacuum, &mut v, &mut room)
@@ -126,7 +141,8 @@ fn one_short(rt: &impl Print) -> io::Result<()> {
     lent(rt, b"phases one short", &x, &z, &[0u8, 1, 0], &vacuum)?;
     let mut none = [7u64; 0];
     let mut room = [7u64; 9];
-    three(rt, 
+    three(
+        rt,
         b"vacuum one short",
         2,
         2,
@@ -139,7 +155,8 @@ fn one_short(rt: &impl Print) -> io::Result<()> {
     )?;
     let mut v = [7u64; 2];
     let mut seven = [7u64; 7];
-    three(rt, 
+    three(
+        rt,
         b"room of 7 words",
         2,
         2,
@@ -151,7 +168,8 @@ fn one_short(rt: &impl Print) -> io::Result<()> {
         &mut seven,
     )?;
     let mut few = [7u64; 3];
-    three(rt, 
+    three(
+        rt,
         b"room of 3 words",
         2,
         2,
@@ -189,7 +207,8 @@ fn bad_values(rt: &impl Print) -> io::Result<()> {
 fn twins(rt: &impl Print, case: &[u8], p: u8) -> io::Result<()> {
     let mut v = [7u64; 2];
     let mut room = [7u64; 9];
-    three(rt, 
+    three(
+        rt,
         case,
         1,
         1,
@@ -213,7 +232,8 @@ fn sizes(rt: &impl Print) -> io::Result<()> {
 }
 
 // A product's line, with a real coefficient.
-fn real(rt: &impl Print, 
+fn real(
+    rt: &impl Print,
     case: &[u8],
     modes: usize,
     qubits: usize,
@@ -230,13 +250,14 @@ fn real(rt: &impl Print,
             head(rt, b"real product", case, 0)?;
             rt.write_all(b", phase")?;
             next(rt, wide(f.power))
-}
+        }
         RealMultiplied::Refused(why) => head(rt, b"real product", case, why.number()),
     }
 }
 
 // The same, with a complex one.
-fn complex(rt: &impl Print, 
+fn complex(
+    rt: &impl Print,
     case: &[u8],
     modes: usize,
     qubits: usize,
@@ -254,7 +275,7 @@ fn complex(rt: &impl Print,
             head(rt, b"complex product", case, 0)?;
             rt.write_all(b", phase")?;
             next(rt, wide(f.power))
-}
+        }
         Multiplied::Refused(why) => head(rt, b"complex product", case, why.number()),
     }
 }
@@ -267,14 +288,26 @@ fn parts(rt: &impl Print, ox: &[u64], oz: &[u64]) -> io::Result<()> {
 }
 
 // Both products, each with two words for each part.
-fn product(rt: &impl Print, case: &[u8], modes: usize, qubits: usize, phases: &[u8], numbers: &[usize], c: f64) -> io::Result<()> {
+fn product(
+    rt: &impl Print,
+    case: &[u8],
+    modes: usize,
+    qubits: usize,
+    phases: &[u8],
+    numbers: &[usize],
+    c: f64,
+) -> io::Result<()> {
     let mut ax = [7u64; 2];
     let mut az = [7u64; 2];
-    real(rt, case, modes, qubits, phases, numbers, c, &mut ax, &mut az)?;
+    real(
+        rt, case, modes, qubits, phases, numbers, c, &mut ax, &mut az,
+    )?;
     parts(rt, &ax, &az)?;
     let mut bx = [7u64; 2];
     let mut bz = [7u64; 2];
-    complex(rt, case, modes, qubits, phases, numbers, c, &mut bx, &mut bz)?;
+    complex(
+        rt, case, modes, qubits, phases, numbers, c, &mut bx, &mut bz,
+    )?;
     parts(rt, &bx, &bz)
 }
 
@@ -287,7 +320,8 @@ fn products(rt: &impl Print) -> io::Result<()> {
     product(rt, b"512 rows", 2, 2, &good, &most, 2.0)?;
     product(rt, b"513 rows", 2, 2, &good, &many, 2.0)?;
     product(rt, b"row 4", 2, 2, &good, &[0usize, 4], 2.0)?;
-    product(rt, 
+    product(
+        rt,
         b"the largest row",
         2,
         2,
@@ -297,12 +331,21 @@ fn products(rt: &impl Print) -> io::Result<()> {
     )?;
     product(rt, b"not finite", 2, 2, &good, &[0usize; 1], 1.0e308 * 10.0)?;
     product(rt, b"phase 4", 2, 2, &[0u8, 1, 0, 4], &[0usize; 1], 2.0)?;
-    product(rt, b"phases one short", 2, 2, &[0u8, 1, 0], &[0usize; 1], 2.0)?;
+    product(
+        rt,
+        b"phases one short",
+        2,
+        2,
+        &[0u8, 1, 0],
+        &[0usize; 1],
+        2.0,
+    )?;
     product(rt, b"0 modes", 0, 2, &good, &[0usize; 1], 2.0)?;
     product(rt, b"257 qubits", 2, 257, &good, &[0usize; 1], 2.0)?;
     let mut two = [7u64; 2];
     let mut none = [7u64; 0];
-    real(rt, 
+    real(
+        rt,
         b"no word for x",
         2,
         2,
@@ -313,7 +356,8 @@ fn products(rt: &impl Print) -> io::Result<()> {
         &mut two,
     )?;
     parts(rt, &none, &two)?;
-    complex(rt, 
+    complex(
+        rt,
         b"no word for z",
         2,
         2,
