@@ -4,7 +4,7 @@ use Prim.Native.Nat.{ℕ, zero, suc, ◌+◌, ◌*◌, ◌/◌, ◌%◌, ◌<◌
 use native.Mathlib.Nat.{zero-add, suc-add, zero-mul}
 use native.Mathlib.Omega.{arith}
 use mathlib.Core.Path.{◌≡◌, refl, sym, ap, ◌∙◌}
-use mathlib.Core.Bool.{Bool, true, false, not, ◌||◌, beq}
+use mathlib.Core.Bool.{Bool, true, false, ◌||◌, beq}
 use borrow.Author.Tests.{eq-eqb}
 use lib.Ieee.{Float, nan, inf, fin, neg, lt, eq, level, up, down}
 use Rattle.refusal.proofs.Bools.{not_not}

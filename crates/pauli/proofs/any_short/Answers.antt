@@ -2,7 +2,6 @@
 use borrow.Author.Tests.{lt-ltb, le-ltb}
 use mathlib.Core.Path.{sym}
 use Rattle.refusal.proofs.Bools.{or_false}
-use borrow.Author.Rules.{rules}
 use Rattle.pauli.proofs.any_short.Goals as goal
 
 pub returns-then-a-need : goal.returns-then-a-need

@@ -1,7 +1,6 @@
 -- `pauli::bad_columns` meets its contract: test by test.
 use borrow.Author.Tests.{eq-eqb, ne_eqb}
 use Rattle.pauli.specs.Product.{bad_columns}
-use borrow.Author.Rules.{rules}
 use Rattle.pauli.proofs.bad_columns.Goals as goal
 
 pub returns-then-columns-eq0 : goal.returns-then-columns-eq0

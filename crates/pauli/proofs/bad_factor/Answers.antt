@@ -1,6 +1,5 @@
 -- `pauli::bad_factor` meets its contract: one row and then the other.
 use mathlib.Core.Path.{sym, ◌∙◌}
-use borrow.Author.Rules.{rules}
 use Rattle.pauli.proofs.bad_factor.Goals as goal
 
 pub returns-then-bad_row : goal.returns-then-bad_row

@@ -2,7 +2,6 @@
 use mathlib.Core.Path.{sym, ◌∙◌}
 use borrow.Author.Tests.{lt-ltb, le-ltb}
 use Rattle.pauli.specs.Product.{bad_row}
-use borrow.Author.Rules.{rules}
 use Rattle.pauli.proofs.bad_row.Goals as goal
 
 pub returns-then-p-gt3 : goal.returns-then-p-gt3

@@ -6,7 +6,6 @@ use mir.Syntax.{w32}
 use mir.Val.{SFits, to_z}
 use mir.ValLaws.{to_z_pos, to_z-of_z}
 use Rattle.pauli.proofs.Signed.{mag_difference}
-use borrow.Author.Rules.{rules}
 use Rattle.pauli.proofs.difference.Goals as goal
 use Rattle.pauli.proofs.difference.Goals.{Start}
 
@@ -20,4 +19,6 @@ pub overflow_sub-result : goal.overflow_sub-result
 overflow_sub-result c = subst (λ (z : ℤ). SFits w32 z) (sym (read_back (goal.at.overflow_sub-result c).Start)) (small (goal.at.overflow_sub-result c).Start)
 
 pub returns : goal.returns
-returns c = to_z-of_z w32 _ (sub-result c) ∙ read_back (goal.at.returns c).Start
+returns c =
+    let d = (goal.at.returns c).Start in
+    to_z-of_z w32 _ (subst (λ (z : ℤ). SFits w32 z) (sym (read_back d)) (small d)) ∙ read_back d

@@ -4,6 +4,10 @@ use Rattle.pauli.proofs.Turns.{between, beyond}
 use borrow.Author.Rules.{rules}
 use Rattle.pauli.proofs.finite.Goals as goal
 
+pub float_from_bits-end : goal.float_from_bits-end
+unfolding nan_bits
+float_from_bits-end c = search rules
+
 pub returns-then-x-end : goal.returns-then-x-end
 unfolding of_bits neg
 returns-then-x-end c = between c.args.x c.if-x-end.true

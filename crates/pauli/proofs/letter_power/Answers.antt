@@ -1,11 +1,10 @@
 -- `pauli::letter_power` meets its contract: the count is taken modulo a multiple of 4, which the letter power does not see.
 use native.Mathlib.Omega.{arith}
-use mathlib.Core.Path.{◌≡◌, ap, ◌∙◌}
-use Prim.Native.Nat.{ℕ, ◌%◌}
+use mathlib.Core.Path.{◌∙◌}
+use Prim.Native.Nat.{◌%◌}
 use Rattle.algebra.specs.Rows.{common}
 use Rattle.dense_block.specs.Words.{value}
 use Rattle.pauli.proofs.Signed.{letter_power_mod}
-use borrow.Author.Rules.{rules}
 use Rattle.pauli.proofs.letter_power.Goals as goal
 
 pub returns : goal.returns

@@ -3,7 +3,6 @@ use mathlib.Core.Path.{ap, ◌∙◌}
 use mathlib.Core.Bool.{not}
 use Rattle.pauli.specs.Product.{lent_row}
 use Rattle.pauli.proofs.Products.{met_phase, commute_by}
-use borrow.Author.Rules.{rules}
 use Rattle.pauli.proofs.meet.Goals as goal
 
 pub returns : goal.returns

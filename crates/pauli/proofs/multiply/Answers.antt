@@ -5,14 +5,13 @@ use mathlib.Core.Bool.{false}
 use mathlib.Core.List.{List, [], ◌∷◌, ◌++◌}
 use lib.ListN.{length, take, drop}
 use lib.Seq.{length-take-le}
-use Rattle.refusal.specs.Table.{Lent, ◌of◌}
+use Rattle.refusal.specs.Table.{◌of◌}
 use Rattle.refusal.proofs.Rooms.{Hold, hold}
 use lib.Bits.{bit_xor}
 use Rattle.algebra.specs.Rows.{times}
 use Rattle.dense_block.specs.Words.{value, filled}
-use Rattle.pauli.specs.Product.{Input, given, first_words, row_of, commuting, bad_columns, too_short}
+use Rattle.pauli.specs.Product.{given, first_words, row_of, commuting, bad_columns, too_short}
 use Rattle.pauli.proofs.Products.{by_columns, by_short, by_value, by_none, value_test, sum_filled}
-use borrow.Author.Rules.{rules}
 use Rattle.pauli.proofs.multiply.Goals as goal
 use Rattle.pauli.proofs.multiply.Goals.{Else-any_short, Else-bad_factor}
 
@@ -93,13 +92,13 @@ returns c =
     let i = (let a = c.args in
     given a.columns a.left.power a.lx.now a.lz.now a.right.power a.rx.now a.rz.now a.ox.now a.oz.now) in
     by_none i (columns_pass (goal.at.returns c).Else-any_short) (lengths_pass (goal.at.returns c).Else-any_short) (rows_pass (goal.at.returns c).Else-bad_factor) m.result.phase m.result.commute _ _
-    (m.ensures.0.phase ∙ ap (λ (n : ℕ). (times (row_of (first_words n i.left)) (row_of (first_words n i.right))).p) same)
-    (m.ensures.0.commute ∙ ap (λ (n : ℕ). commuting (row_of (first_words n i.left)) (row_of (first_words n i.right))) same)
-    (ap (λ (l : List ℕ). l ++ drop (c.words_for-w.result) a.ox.now) m.ensures.1.0
+    (m.ensures.met.phase ∙ ap (λ (n : ℕ). (times (row_of (first_words n i.left)) (row_of (first_words n i.right))).p) same)
+    (m.ensures.met.commute ∙ ap (λ (n : ℕ). commuting (row_of (first_words n i.left)) (row_of (first_words n i.right))) same)
+    (ap (λ (l : List ℕ). l ++ drop (c.words_for-w.result) a.ox.now) m.ensures.x_part
     ∙ sum_filled (c.words_for-w.result) a.lx.now a.rx.now a.ox.now h.0 h.1.1.0
     (λ k. (c.shared_slice_known-1.given k).fits) (λ k. (c.shared_slice_known-3-1.given k).fits)
     ∙ ap (λ (n : ℕ). filled n (bit_xor (value (take n a.lx.now)) (value (take n a.rx.now))) a.ox.now) same)
-    (ap (λ (l : List ℕ). l ++ drop (c.words_for-w.result) a.oz.now) m.ensures.1.1
+    (ap (λ (l : List ℕ). l ++ drop (c.words_for-w.result) a.oz.now) m.ensures.z_part
     ∙ sum_filled (c.words_for-w.result) a.lz.now a.rz.now a.oz.now h.1.0 h.1.1.1.0
     (λ k. (c.shared_slice_known-2-1.given k).fits) (λ k. (c.shared_slice_known-4-1.given k).fits)
     ∙ ap (λ (n : ℕ). filled n (bit_xor (value (take n a.lz.now)) (value (take n a.rz.now))) a.oz.now) same)

@@ -1,15 +1,14 @@
 -- `pauli::never_negative` meets its contract: with 4 added a remainder is 1 to 7, and its own remainder is the one that is never negative.
 use native.Mathlib.Omega.{arith}
 use mathlib.Core.Path.{◌≡◌, sym, subst, ap, ◌∙◌}
-use lib.Dec.{T, lit<}
+use lib.Dec.{T}
 use lib.IntN.{ℤ, pos, nat_abs, ◌+ℤ◌}
-use lib.Signed.{non_neg, quot_z, rem_z}
+use lib.Signed.{non_neg, rem_z}
 use mir.Syntax.{w8, w32}
 use mir.Val.{Fits, SFits, to_z, of_z}
 use mir.ValLaws.{to_z-of_z, to_z_pos}
 use Rattle.pauli.specs.Phases.{mod_four}
-use Rattle.pauli.proofs.Signed.{mag_quotient, mag_raised, raised, mod_four_lt}
-use borrow.Author.Rules.{rules}
+use Rattle.pauli.proofs.Signed.{mag_raised, raised, mod_four_lt}
 use Rattle.pauli.proofs.never_negative.Goals as goal
 use Rattle.pauli.proofs.never_negative.Goals.{Start}
 
@@ -32,15 +31,8 @@ read c =
 pub overflow_add-result : goal.overflow_add-result
 overflow_add-result c = subst (λ (z : ℤ). SFits w32 z) (sym (read_back (goal.at.overflow_add-result c).Start)) (sum_fits (goal.at.overflow_add-result c).Start)
 
--- LOST tie.Need-nonzero-rem-result
--- rem-result c = (
---   lit< tt,
---   subst (λ (z : ℤ). SFits w32 (quot_z z (pos 4))) (sym (sum_back c)) (record { sfits = omega (arith, mag_quotient (c.args.r +ℤ pos 4), mag_raised c.args.r c.requires) }),
--- )
-
 pub overflow_cast-result : goal.overflow_cast-result
-overflow_cast-result c =
-    (
+overflow_cast-result c = (
   subst (λ (z : ℤ). T (non_neg z)) (sym (read (goal.at.overflow_cast-result c).Start)) tt,
   subst (λ (z : ℤ). Fits w8 (nat_abs z)) (sym (read (goal.at.overflow_cast-result c).Start)) (record { fits = omega (arith, mod_four_lt c.args.r) }),
 )

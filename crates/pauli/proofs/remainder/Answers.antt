@@ -1,14 +1,12 @@
 -- `pauli::remainder` meets its contract: neither the quotient nor the remainder is larger than the number, so both fit.
 use native.Mathlib.Omega.{arith}
-use mathlib.Core.Path.{◌≡◌, sym, subst, ap, ◌∙◌}
-use lib.Dec.{lit<}
+use mathlib.Core.Path.{◌≡◌, ap, ◌∙◌}
 use lib.IntN.{ℤ, pos}
-use lib.Signed.{quot_z, rem_z}
+use lib.Signed.{rem_z}
 use mir.Syntax.{w32}
 use mir.Val.{SFits, to_z, of_z}
 use mir.ValLaws.{to_z-of_z}
-use Rattle.pauli.proofs.Signed.{mag_quotient, mag_remainder}
-use borrow.Author.Rules.{rules}
+use Rattle.pauli.proofs.Signed.{mag_remainder}
 use Rattle.pauli.proofs.remainder.Goals as goal
 use Rattle.pauli.proofs.remainder.Goals.{Start}
 
@@ -17,9 +15,6 @@ read_back c = to_z-of_z w32 c.args.d c.ranges.d
 
 remainder_fits : (c : Start) → SFits w32 (rem_z c.args.d (pos 4))
 remainder_fits c = record { sfits = omega (arith, mag_remainder c.args.d) }
-
--- LOST tie.Need-nonzero-rem-result
--- rem-result c = (lit< tt, subst (λ (z : ℤ). SFits w32 (quot_z z (pos 4))) (sym (read_back c)) (quotient_fits c))
 
 pub returns : goal.returns
 returns c = ap (λ (z : ℤ). to_z w32 (of_z w32 (rem_z z (pos 4)))) (read_back (goal.at.returns c).Start) ∙ to_z-of_z w32 _ (remainder_fits (goal.at.returns c).Start)

@@ -4,7 +4,6 @@ use mathlib.Core.List.{List}
 use Prim.Native.Nat.{ℕ}
 use Rattle.dense_block.specs.Words.{xors}
 use Rattle.dense_block.proofs.Alongs.{copied_whole}
-use borrow.Author.Rules.{rules}
 use Rattle.pauli.proofs.sum_into.Goals as goal
 
 pub returns : goal.returns

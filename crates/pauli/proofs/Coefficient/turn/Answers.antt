@@ -3,7 +3,6 @@ use Prim.Native.Nat.{◌%◌}
 use native.Mathlib.Omega.{arith}
 use mathlib.Core.Path.{◌≡◌}
 use Rattle.pauli.proofs.Turns.{three_turns}
-use borrow.Author.Rules.{rules}
 use Rattle.pauli.proofs.Coefficient.turn.Goals as goal
 
 pub returns-then-k-eq0 : goal.returns-then-k-eq0

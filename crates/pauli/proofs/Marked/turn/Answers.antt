@@ -2,7 +2,6 @@
 use Prim.Native.Nat.{◌%◌}
 use native.Mathlib.Omega.{arith}
 use mathlib.Core.Path.{◌≡◌}
-use borrow.Author.Rules.{rules}
 use Rattle.pauli.proofs.Marked.turn.Goals as goal
 
 pub returns-then-k-eq0 : goal.returns-then-k-eq0

@@ -1,6 +1,5 @@
 -- `Phase::double_parity` meets its contract: an odd parity adds 2, an even one nothing.
 use native.Mathlib.Omega.{arith}
-use borrow.Author.Rules.{rules}
 use Rattle.pauli.proofs.Phase.double_parity.Goals as goal
 
 pub returns-then-odd : goal.returns-then-odd
