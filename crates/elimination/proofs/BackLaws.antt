@@ -11,7 +11,7 @@ use borrow.Author.Tests.{eqb-true, eqb-false}
 use Rattle.algebra.specs.Rows.{dot}
 use Rattle.algebra.proofs.Digits.{bit_of_zero}
 use Rattle.algebra.proofs.Dots.{dot_lt}
-use Rattle.dense_block.specs.Words.{value, digit, put_bit, put, odd, term_of}
+use Rattle.dense_block.specs.Words.{value, put_bit, put, odd, term_of}
 use Rattle.dense_block.proofs.Values.{Words}
 use Rattle.dense_block.proofs.Columns.{value_put}
 use Rattle.elimination.specs.Eliminated.{Lowest, Settled, Met, Substituted, met, unmet}

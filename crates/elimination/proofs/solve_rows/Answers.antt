@@ -1,0 +1,70 @@
+-- `elimination::solve_rows` meets its contract: refused for its sizes, or the equations eliminated, substituted back and cleared.
+use Prim.Native.Nat.{◌+◌}
+use native.Mathlib.Omega.{arith}
+use mathlib.Core.Path.{◌≡◌, refl, sym, ◌∙◌}
+use mathlib.Core.Bool.{true}
+use lib.ListN.{length}
+use lib.Seq.{length-take-le}
+use Rattle.elimination.specs.Rooms.{fits}
+use Rattle.elimination.proofs.Answers.{Fitting, fitting, solve_wide, solve_room_lem, solve_string, solve_none, solve_found}
+use Rattle.elimination.proofs.solve_rows.Goals as goal
+
+pub returns-then-width-gt4 : goal.returns-then-width-gt4
+returns-then-width-gt4 c =
+    let a = c.args in
+    solve_wide a.rows a.width a.room.now a.v.now c.if-width-gt4.true
+
+pub returns-then-not-fits : goal.returns-then-not-fits
+returns-then-not-fits c =
+    let a = c.args in
+    solve_room_lem a.rows a.width a.room.now a.v.now (sym c.fits.ensures ∙ c.if-not-fits.true)
+
+pub returns-then-v-width : goal.returns-then-v-width
+returns-then-v-width c =
+    let a = c.args in
+    solve_string a.rows a.width a.room.now a.v.now (sym c.fits.ensures ∙ c.if-not-fits.false) c.if-v-width.true
+
+pub eliminate-requires : goal.eliminate-requires
+eliminate-requires c =
+    let passed : fits 256 5 c.args.rows (c.args.width + 1) (length c.args.room.now) ≡ true = sym c.fits.ensures ∙ c.if-not-fits.false in
+    let holds : Fitting 256 5 c.args.rows (c.args.width + 1) (length c.args.room.now) = fitting 256 5 _ _ _ passed in
+    let h = holds in omega arith
+
+pub substitute-found-requires : goal.substitute-found-requires
+substitute-found-requires c =
+    let passed : fits 256 5 c.args.rows (c.args.width + 1) (length c.args.room.now) ≡ true = sym c.fits.ensures ∙ c.if-not-fits.false in
+    let holds : Fitting 256 5 c.args.rows (c.args.width + 1) (length c.args.room.now) = fitting 256 5 _ _ _ passed in
+    let h = holds in
+    let done = c.eliminate in
+    (omega (arith, done.ensures.1.long), omega arith, omega arith, refl, done.ensures.0.settled)
+
+pub overflow_mul-rows : goal.overflow_mul-rows
+overflow_mul-rows c =
+    let passed : fits 256 5 c.args.rows (c.args.width + 1) (length c.args.room.now) ≡ true = sym c.fits.ensures ∙ c.if-not-fits.false in
+    let holds : Fitting 256 5 c.args.rows (c.args.width + 1) (length c.args.room.now) = fitting 256 5 _ _ _ passed in
+    let h = holds in record { fits = omega arith }
+
+pub slice_bounds-copy-end-then-found : goal.slice_bounds-copy-end-then-found
+slice_bounds-copy-end-then-found c = sym (length-take-le _ _ c.if-v-width.false)
+
+pub returns-then-found : goal.returns-then-found
+returns-then-found c =
+    let passed : fits 256 5 c.args.rows (c.args.width + 1) (length c.args.room.now) ≡ true = sym c.fits.ensures ∙ c.if-not-fits.false in
+    let a = c.args in
+    let done = c.eliminate in
+    let sub = c.substitute-found in
+    let cleared = c.clear in
+    solve_found a.rows a.width a.room.now a.v.now done.new.room sub.new.u passed c.if-v-width.false
+    (λ i. (c.slice_known-1.given i).fits) done.ensures.0 done.ensures.1
+    sub.result cleared.new.s c.copy.new.dst c.if-found.true sub.ensures.0 cleared.ensures sub.ensures.1
+    (omega (arith, c.u-2-1.given)) c.copy.ensures
+
+pub returns-else-found : goal.returns-else-found
+returns-else-found c =
+    let passed : fits 256 5 c.args.rows (c.args.width + 1) (length c.args.room.now) ≡ true = sym c.fits.ensures ∙ c.if-not-fits.false in
+    let a = c.args in
+    let done = c.eliminate in
+    let sub = c.substitute-found in
+    solve_none a.rows a.width a.room.now a.v.now done.new.room sub.new.u passed c.if-v-width.false
+    (λ i. (c.slice_known-1.given i).fits) done.ensures.0 done.ensures.1
+    sub.result c.clear.new.s c.if-found.false sub.ensures.0 c.clear.ensures
