@@ -9,7 +9,7 @@ use borrow.Author.Tests.{ltb-true, lt-ltb, le-ltb, eqb-true, eq-eqb, ne_eqb}
 use Rattle.refusal.specs.Search.{Least, found, none, some_below, least_below}
 use Rattle.refusal.proofs.Bools.{and_left, and_right, both, is_false}
 use Rattle.refusal.proofs.Searches.{none_of, least_found, least_none}
-use Rattle.trees.specs.Trees.{empty, is, onward, node_of, parent_in, up, climb, twice, twice_in, fault_of, fault, first_fault, scattered, Names, Closed, Passes}
+use Rattle.trees.specs.Trees.{empty, onward, node_of, parent_in, up, climb, twice, twice_in, fault_of, fault, first_fault, scattered, Names, Closed, Passes}
 use Rattle.trees.specs.Flatpacks.{named}
 use Rattle.trees.specs.Named.{Named, jordanWigner, parity, bravyiKitaev, jkmn, x_of, y_of, z_of, under, grown, named_tree}
 use Rattle.trees.proofs.Findings.{found_some, is_found}
