@@ -106,6 +106,7 @@ fn on_line(n: usize, k: usize, q: usize, x: usize, y: usize, f: Field) -> State
 }
 
 // A number with one digit more.
+#[tactic(auto, using(crate::proofs::Numbers::digit_low), unfolding(crate::specs::Moves::next))]
 fn next_digit(n: u16, b: u8) -> Field
     ensures { result ≡ next (Field.Number n) b }
 {
