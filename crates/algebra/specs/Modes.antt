@@ -1,5 +1,5 @@
 -- Modes and the vacuum rule. Rows 2i and 2i + 1 belong to mode i.
-use Rattle.std.specs.Prelude.{ℕ, ◌+◌, ◌-◌, ◌*◌, ◌/◌, ◌%◌, ◌<◌, ◌≡◌, ◌≢◌, Bool, true, ◌&&◌, eqb}
+use Rattle.std.specs.Prelude.{ℕ, ◌+◌, ◌-◌, ◌*◌, ◌/◌, ◌%◌, ◌<◌, ◌≢◌, Bool, ◌&&◌, eqb}
 use Rattle.std.specs.Int.Bits.{bit_xor}
 use Rattle.refusal.specs.Search.{all_below, Pair, first_pair}
 use Rattle.algebra.specs.Rows.{dot, Row, clash, Anticommute}

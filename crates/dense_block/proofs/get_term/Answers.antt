@@ -1,6 +1,6 @@
 -- `dense_block::get_term` meets its contract: a row starts inside the block exactly if as many rows fit, and takes no more words than are left.
 use Rattle.std.proofs.Common.{◌*◌, ◌≤◌, length, arith}
-use Rattle.dense_block.proofs.Terms.{start_inside, start_outside, term_past, term_empty, term_part}
+use Rattle.dense_block.proofs.Terms.{start_inside, start_outside, term_past, term_empty}
 use Rattle.dense_block.proofs.get_term.Goals as goal
 use Rattle.dense_block.proofs.get_term.Goals.{Else-n-width}
 
@@ -26,11 +26,3 @@ overflow_add-e c = record { fits = omega (arith, inside (goal.at.overflow_add-e 
 
 pub offset_bounds-x-a : goal.offset_bounds-x-a
 offset_bounds-x-a c = record { fits = omega (arith, inside (goal.at.offset_bounds-x-a c).Else-n-width, c.least.ensures) }
-
--- LOST tie.Need-slice-bounds-result-end-3
--- part-result-end-3 c = omega (arith, inside c.before, c.least.ensures)
-
-pub returns : goal.returns
-returns c =
-    let a = c.args in
-    term_part c.least.result a.width a.x.now a.term (inside (goal.at.returns c).Else-n-width) c.least.ensures
