@@ -16,7 +16,9 @@ returns-then-widest-width c = simp (le-leb _ _ c.if-most-rows.false, lt-leb _ _ 
 pub overflow_mul-result : goal.overflow_mul-result
 overflow_mul-result c =
     let a = c.args in
-    record { fits = omega (arith, mul-le-mul {n₁ = a.rows} {m₁ = a.width} {n₂ = a.most} {m₂ = a.widest} c.if-most-rows.false c.if-widest-width.false, mul-le-mul {n₁ = a.most} {m₁ = a.widest} {n₂ = 512} {m₂ = 8} (omega arith) (omega arith)) }
+    let below = mul-le-mul {n₁ = a.rows} {m₁ = a.width} {n₂ = a.most} {m₂ = a.widest} c.if-most-rows.false c.if-widest-width.false in
+    let most = mul-le-mul {n₁ = a.most} {m₁ = a.widest} {n₂ = 512} {m₂ = 8} (omega arith) (omega arith) in
+    record { fits = omega (arith, below, most) }
 
 pub returns : goal.returns
 unfolding fits

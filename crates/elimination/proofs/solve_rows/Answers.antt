@@ -8,6 +8,13 @@ use lib.Seq.{length-take-le}
 use Rattle.elimination.specs.Rooms.{fits}
 use Rattle.elimination.proofs.Answers.{Fitting, fitting, solve_wide, solve_room_lem, solve_string, solve_none, solve_found}
 use Rattle.elimination.proofs.solve_rows.Goals as goal
+use Rattle.elimination.proofs.solve_rows.Goals.{Else-not-fits}
+
+passes : (c : Else-not-fits) → fits 256 5 c.args.rows (c.args.width + 1) (length c.args.room.now) ≡ true
+passes c = sym c.fits.ensures ∙ c.if-not-fits.false
+
+holds : (c : Else-not-fits) → Fitting 256 5 c.args.rows (c.args.width + 1) (length c.args.room.now)
+holds c = fitting 256 5 _ _ _ (passes c)
 
 pub returns-then-width-gt4 : goal.returns-then-width-gt4
 returns-then-width-gt4 c =
@@ -26,30 +33,26 @@ returns-then-v-width c =
 
 pub eliminate-requires : goal.eliminate-requires
 eliminate-requires c =
-    let passed : fits 256 5 c.args.rows (c.args.width + 1) (length c.args.room.now) ≡ true = sym c.fits.ensures ∙ c.if-not-fits.false in
-    let holds : Fitting 256 5 c.args.rows (c.args.width + 1) (length c.args.room.now) = fitting 256 5 _ _ _ passed in
-    let h = holds in omega arith
+    let h = holds (goal.at.eliminate-requires c).Else-not-fits in
+    omega arith
 
 pub substitute-found-requires : goal.substitute-found-requires
 substitute-found-requires c =
-    let passed : fits 256 5 c.args.rows (c.args.width + 1) (length c.args.room.now) ≡ true = sym c.fits.ensures ∙ c.if-not-fits.false in
-    let holds : Fitting 256 5 c.args.rows (c.args.width + 1) (length c.args.room.now) = fitting 256 5 _ _ _ passed in
-    let h = holds in
+    let h = holds (goal.at.substitute-found-requires c).Else-not-fits in
     let done = c.eliminate in
     (omega (arith, done.ensures.1.long), omega arith, omega arith, refl, done.ensures.0.settled)
 
 pub overflow_mul-rows : goal.overflow_mul-rows
 overflow_mul-rows c =
-    let passed : fits 256 5 c.args.rows (c.args.width + 1) (length c.args.room.now) ≡ true = sym c.fits.ensures ∙ c.if-not-fits.false in
-    let holds : Fitting 256 5 c.args.rows (c.args.width + 1) (length c.args.room.now) = fitting 256 5 _ _ _ passed in
-    let h = holds in record { fits = omega arith }
+    let h = holds (goal.at.overflow_mul-rows c).Else-not-fits in
+    record { fits = omega arith }
 
 pub slice_bounds-copy-end-then-found : goal.slice_bounds-copy-end-then-found
 slice_bounds-copy-end-then-found c = sym (length-take-le _ _ c.if-v-width.false)
 
 pub returns-then-found : goal.returns-then-found
 returns-then-found c =
-    let passed : fits 256 5 c.args.rows (c.args.width + 1) (length c.args.room.now) ≡ true = sym c.fits.ensures ∙ c.if-not-fits.false in
+    let passed = passes (goal.at.returns-then-found c).Else-not-fits in
     let a = c.args in
     let done = c.eliminate in
     let sub = c.substitute-found in
@@ -61,7 +64,7 @@ returns-then-found c =
 
 pub returns-else-found : goal.returns-else-found
 returns-else-found c =
-    let passed : fits 256 5 c.args.rows (c.args.width + 1) (length c.args.room.now) ≡ true = sym c.fits.ensures ∙ c.if-not-fits.false in
+    let passed = passes (goal.at.returns-else-found c).Else-not-fits in
     let a = c.args in
     let done = c.eliminate in
     let sub = c.substitute-found in

@@ -44,7 +44,8 @@ loop-r-preserved c =
       elim c.if-get_index.branch [
         | then-get_index w ↦ rw w.room-is
             (sweeping_on a.rows a.width a.s a.p a.room.now l.r l.room l.invariant.2 w.add_row.new.room (omega arith) (omega arith) (omega arith)
-            (row_on a.width l.room l.r _ row.ensures a.p (sym read ∙ w.if-get_index.true)) (λ i. (w.slice_known-then-get_index-1.given i).fits) w.add_row.ensures)
+            (row_on a.width l.room l.r _ row.ensures a.p (sym read ∙ w.if-get_index.true))
+            (λ i. (w.slice_known-then-get_index-1.given i).fits) w.add_row.ensures)
         | else-get_index w ↦ rw w.room-is
             (sweeping_off a.rows a.width a.s a.p a.room.now l.r l.room l.invariant.2 (omega arith)
             (row_off a.width l.room l.r _ row.ensures a.p (sym read ∙ w.if-get_index.false)))
