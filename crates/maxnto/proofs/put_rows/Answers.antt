@@ -47,11 +47,11 @@ loop-m-preserved c =
     let y = c.put_row in
     let k : l.m * a.w + a.w - l.m * a.w ≡ a.w = omega arith in
     let ex =
-        laid_step a.w (x_part a.n) l.m _ l.x a.x.now _ l.invariant.4
-        (y.ensures.x_part ∙ ap (λ (n : ℕ). words_of n (x_part a.n l.m)) (sym c.requires.1)) k in
+    laid_step a.w (x_part a.n) l.m _ l.x a.x.now _ l.invariant.4
+    (y.ensures.x_part ∙ ap (λ (n : ℕ). words_of n (x_part a.n l.m)) (sym c.requires.1)) k in
     let ez =
-        laid_step a.w (z_part a.n) l.m _ l.z a.z.now _ l.invariant.5
-        (y.ensures.z_part ∙ ap (λ (n : ℕ). words_of n (z_part a.n l.m)) (sym c.requires.1)) k in (
+    laid_step a.w (z_part a.n) l.m _ l.z a.z.now _ l.invariant.5
+    (y.ensures.z_part ∙ ap (λ (n : ℕ). words_of n (z_part a.n l.m)) (sym c.requires.1)) k in (
       omega arith,
       laid_keeps a.w (x_part a.n) l.m _ a.x.now ex (omega (arith, x_row (goal.at.loop-m-preserved c).In-loop-m)),
       laid_keeps a.w (z_part a.n) l.m _ a.z.now ez (omega (arith, z_row (goal.at.loop-m-preserved c).In-loop-m)),
