@@ -1,5 +1,5 @@
 -- Steps along a Z chain, by the table of the nodes in the slots, and where each row's leaf is.
-use Prim.Native.Nat.{ℕ, zero, suc, ◌+◌, ◌-◌, ◌*◌, ◌/◌, ◌%◌, ◌<◌, ◌≤◌}
+use Prim.Native.Nat.{ℕ, zero, suc, ◌+◌, ◌-◌, ◌*◌, ◌<◌, ◌≤◌}
 use native.Mathlib.Omega.{arith}
 use mathlib.Core.Path.{◌≡◌, refl, sym, ap, ◌∙◌}
 use mathlib.Core.Logic.{◌≢◌}
@@ -7,7 +7,7 @@ use mathlib.Core.Bool.{true, false}
 use mathlib.Core.List.{List}
 use Rattle.refusal.specs.Search.{Least, found, none}
 use Rattle.trees.specs.Trees.{onward, node_of, Tree, leaf_in, missing, Closed}
-use Rattle.trees.specs.Leaves.{named_slot, z_end, chain_end, slot_of}
+use Rattle.trees.specs.Leaves.{z_end, chain_end, slot_of}
 use Rattle.ternarytree.specs.Tables.{nth, code, AtMost, Children, Wired, Slots}
 use Rattle.ternarytree.proofs.Codes.{code_none}
 use Rattle.trees.proofs.WithLeaves.{leaf_slot}

@@ -12,12 +12,11 @@ use lib.ListN.{get_or, set, length, get_or-eq_default}
 use borrow.Author.Tests.{eq-eqb, ne_eqb, le-leb, lt-leb}
 use Rattle.refusal.specs.Search.{Least, found, none, some_below, least_below}
 use Rattle.refusal.proofs.Searches.{some_of, none_of, least_found, least_none, least_missing}
-use Rattle.trees.specs.declared.Child.{Child}
 use Rattle.trees.specs.declared.Child.TheVariants.{Empty as empty, Node as node, Low as low}
 use Rattle.trees.specs.Trees.{twice_in}
 use Rattle.trees.specs.declared.Slot.{Slot}
 use Rattle.trees.specs.declared.Slot.TheVariants.{Blank as blank, Number as number}
-use Rattle.trees.specs.Flatpacks.{Flatpack, entry_in, past, leaf_numbered, unnamed, named, child_of}
+use Rattle.trees.specs.Flatpacks.{entry_in, past, leaf_numbered, unnamed, named, child_of}
 use Rattle.tree_sizes.specs.Sizes.{qubit_at}
 use Rattle.ternarytree.specs.Building.{slot_at, flat}
 use Rattle.ternarytree.specs.Tables.{code, uncode, Holds, AtMost, child_in}

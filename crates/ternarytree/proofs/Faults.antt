@@ -31,7 +31,7 @@ use Rattle.trees.proofs.Faults.{first_at_fault}
 use Rattle.tree_sizes.specs.Sizes.{outside, reaches, unreadable}
 use Rattle.ternarytree.specs.declared.Place.{Place}
 use Rattle.ternarytree.specs.declared.Place.TheVariants.{Nowhere as nowhere, Slot as slot}
-use Rattle.ternarytree.specs.Building.{tree_checks, Input, flat, tree_of, bad_size, too_short, answer, FlatBuilt, placed, fault_slot, fault_place, Cause, in_slot, second_entry, roots, missing_leaf}
+use Rattle.ternarytree.specs.Building.{tree_checks, Input, flat, tree_of, bad_size, too_short, FlatBuilt, placed, fault_slot, fault_place, Cause, in_slot, second_entry, roots, missing_leaf}
 use Rattle.ternarytree.proofs.Answers.{tested}
 
 -- ---- one outcome is left

@@ -1,17 +1,16 @@
 -- What is wrong with a slot by the tables of the parents and of the leaves, and the tables after it.
-use Prim.Native.Nat.{ℕ, zero, suc, ◌+◌, ◌*◌, ◌/◌, ◌<◌, ◌≤◌}
+use Prim.Native.Nat.{ℕ, ◌+◌, ◌*◌, ◌/◌, ◌<◌, ◌≤◌}
 use native.Mathlib.Omega.{arith}
-use mathlib.Core.Path.{◌≡◌, refl, sym, ap, ◌∙◌}
+use mathlib.Core.Path.{◌≡◌, refl, sym, ◌∙◌}
 use mathlib.Core.Logic.{◌≢◌}
-use mathlib.Core.Bool.{true, false}
 use mathlib.Core.List.{List}
 use lib.ListN.{get_or, set, length}
 use borrow.Author.Tests.{eq-eqb, ne_eqb, le-leb, lt-leb}
 use Rattle.refusal.specs.Search.{found, none}
 use Rattle.trees.specs.declared.Child.{Child}
-use Rattle.trees.specs.declared.Child.TheVariants.{Empty as empty, Node as node, XLeaf as xLeaf, YLeaf as yLeaf, Low as low}
+use Rattle.trees.specs.declared.Child.TheVariants.{Node as node}
 use Rattle.trees.specs.Trees.{is, node_of, row_of, Tree, parent_in, leaf_in, leaf_fault, fault_of}
-use Rattle.ternarytree.specs.Tables.{code, Holds, Wired}
+use Rattle.ternarytree.specs.Tables.{Holds, Wired}
 use Rattle.ternarytree.proofs.Codes.{code_some, code_none, skip, mark}
 
 -- ---- a node

@@ -1,20 +1,17 @@
 -- Steps of `plant`: the tables after the first k nodes, and after all of them.
-use Prim.Native.Nat.{ℕ, suc, ◌+◌, ◌*◌, ◌/◌, ◌<◌, ◌≤◌}
+use Prim.Native.Nat.{ℕ, ◌+◌, ◌*◌, ◌<◌, ◌≤◌}
 use native.Mathlib.Numerals.{add-one}
 use native.Mathlib.Omega.{arith}
 use mathlib.Core.Path.{◌≡◌, refl, sym, ap, ◌∙◌}
-use mathlib.Core.Logic.{◌≢◌}
-use mathlib.Core.Bool.{Bool, true, false, ◌&&◌}
+use mathlib.Core.Bool.{Bool, ◌&&◌}
 use mathlib.Core.List.{List}
 use borrow.Author.Tests.{lt-ltb, ltb-true, eq-eqb, ne_eqb, eqb-true}
 use lib.Dec.{eqb, ltb}
 use lib.ListN.{length, set, length-set}
-use Rattle.refusal.specs.Search.{Least, found, none, least_below}
+use Rattle.refusal.specs.Search.{least_below}
 use Rattle.refusal.proofs.Bools.{and_left, and_right, is_false}
 use Rattle.refusal.proofs.Searches.{least_none}
-use Rattle.trees.specs.declared.Child.TheVariants.{Empty as empty}
-use Rattle.trees.specs.Trees.{node_of, Tree, up}
-use Rattle.trees.specs.Flatpacks.{named}
+use Rattle.trees.specs.Trees.{up}
 use Rattle.trees.specs.Named.{grown}
 use Rattle.ternarytree.specs.Tables.{nth, code, Holds, Blank, Planted}
 use Rattle.ternarytree.proofs.Codes.{mark, in_order}

@@ -1,7 +1,7 @@
 -- The vacuum rule at the all-zero vacuum, mode by mode: the X parts agree and d is 0.
 use Prim.Native.Nat.{ℕ, ◌+◌, ◌-◌, ◌*◌, ◌/◌, ◌%◌, ◌<◌, ◌≤◌}
 use native.Mathlib.Omega.{arith}
-use mathlib.Core.Path.{◌≡◌, refl, sym, ap, ap₂, ◌∙◌}
+use mathlib.Core.Path.{◌≡◌, refl, sym, ap₂, ◌∙◌}
 use mathlib.Core.Logic.{◌≢◌}
 use mathlib.Core.Bool.{Bool, true, false, ◌&&◌}
 use mathlib.Core.List.{List}
@@ -12,7 +12,7 @@ use Rattle.refusal.proofs.Bools.{and_right, both}
 use Rattle.refusal.proofs.Searches.{all_of, not_all}
 use Rattle.algebra.specs.Modes.{Modes, lo, hi, e, d, paired, empty, vacuum_rule}
 use Rattle.algebra.proofs.Dots.{dot_zero_r}
-use Rattle.dense_block.specs.Words.{value, alike, term_of}
+use Rattle.dense_block.specs.Words.{alike, term_of}
 use Rattle.dense_block.proofs.Values.{Words}
 use Rattle.dense_block.proofs.Alikes.{alike_value}
 use Rattle.dense_block.proofs.Terms.{row_within, words_term, length_term}
