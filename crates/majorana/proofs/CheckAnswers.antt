@@ -4,15 +4,13 @@ use native.Mathlib.Nat.{add-mul, mul-add}
 use native.Mathlib.Omega.{arith}
 use mathlib.Core.Path.{◌≡◌, refl, sym, ap, ◌∙◌}
 use mathlib.Core.List.{List, [], ◌∷◌}
-use mathlib.Core.Bool.{Bool, true, false, cond, not, ◌||◌}
-use lib.Dec.{eqb}
-use lib.ListN.{length, drop}
+use mathlib.Core.Bool.{Bool, true, false, not}
 use Rattle.refusal.specs.declared.Refusal.TheVariants.{Size, Short}
 use Rattle.refusal.specs.declared.Answer.{Answer}
 use Rattle.refusal.specs.declared.Answer.TheVariants.{Refused}
-use Rattle.refusal.specs.Numbers.{Paper, bare, answered}
+use Rattle.refusal.specs.Numbers.{Paper, answered}
 use Rattle.refusal.specs.Search.{Pair, pair, no_pair}
-use Rattle.refusal.specs.Table.{Rule, ◌gives◌, ◌names◌, first_of, past_two}
+use Rattle.refusal.specs.Table.{◌gives◌, ◌names◌, first_of, past_two}
 use Rattle.refusal.proofs.Outcome.{one_outcome, answered_injective}
 use Rattle.algebra.specs.Modes.{Modes, vacuum_rule, commuting_pair}
 use Rattle.algebra.specs.Choices.{dependent}

@@ -1,5 +1,5 @@
 -- What the encoding and the decoding of words hand back and leave, by cases on what the algebra says; and the order of the tests.
-use Prim.Native.Nat.{ℕ, ◌≤◌}
+use Prim.Native.Nat.{ℕ}
 use mathlib.Core.Path.{◌≡◌, refl, sym, ap, ◌∙◌}
 use mathlib.Core.List.{List, [], ◌∷◌, ◌++◌}
 use mathlib.Core.Bool.{Bool, true, false, not}
@@ -8,7 +8,7 @@ use Rattle.refusal.specs.declared.Refusal.{Refusal}
 use Rattle.refusal.specs.declared.Refusal.TheVariants.{Size, Short, Value, Unencodable, Undecodable}
 use Rattle.refusal.specs.declared.Answer.{Answer}
 use Rattle.refusal.specs.declared.Answer.TheVariants.{Done as Fine, Refused as No}
-use Rattle.refusal.specs.Numbers.{Paper, bare, paper, answered}
+use Rattle.refusal.specs.Numbers.{answered}
 use Rattle.refusal.specs.Table.{◌gives◌, first_of, on_done}
 use Rattle.refusal.proofs.Outcome.{one_outcome, answered_injective, paper_injective, refused_number}
 use Rattle.algebra.specs.Coding as algebra

@@ -61,11 +61,20 @@ module _ (i j : ℕ) where
       go false false false false no_pair false true k h = absurd (omega arith)
       go false false false false no_pair false false k h = absurd (omega arith)
 
+  -- a rule that doesn't hold can be left out
+  without_none : (size short bad : Bool) (rest : List Rule)
+      → first_of ((size gives 1) ∷ (short gives 2) ∷ (bad gives 17) ∷ rest) ≡ first_of ((size gives 1) ∷ (short gives 2) ∷ (bad gives 17) ∷ (false gives 12) ∷ rest)
+  without_none true short bad rest = refl
+  without_none false true bad rest = refl
+  without_none false false true rest = refl
+  without_none false false false rest = refl
+
   pub check_pair : (s : Set) (vs room after : List ℕ) → RowsChecked s vs room (Refused (Commuting i j)) after → FirstCommuting (modes s) i j
   unfolding rows_checked
   check_pair s vs room after h =
       let m = modes s in
-      commuting_first m i j (pair_named (bad_size s.n s.q) (rows_short s vs room) (vacuum_bad s vs) false (commuting_pair m) (dependent m) (vacuum_rule m (bits s.q vs)) h.answer)
+      commuting_first m i j (pair_named (bad_size s.n s.q) (rows_short s vs room) (vacuum_bad s vs) false (commuting_pair m) (dependent m) (vacuum_rule m (bits s.q vs))
+      (h.answer ∙ without_none (bad_size s.n s.q) (rows_short s vs room) (vacuum_bad s vs) _))
 
   pub new_pair : (s : Set) (vs room after left : List ℕ) → Makes s vs room (Refused (Commuting i j)) after left → FirstCommuting (modes s) i j
   unfolding new_checked

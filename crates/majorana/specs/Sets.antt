@@ -1,5 +1,5 @@
 -- A row set as it is lent: X parts and Z parts of w = ceil(q/64) words a row, row k from word k·w on, and a phase a row. Rows 2i and 2i + 1 belong to mode i.
-use Rattle.std.specs.Prelude.{ℕ, ◌*◌, List, [], ◌∷◌, Bool, ◌||◌, eqb, ltb, length, get_or, take}
+use Rattle.std.specs.Prelude.{ℕ, ◌*◌, List, [], ◌∷◌, Bool, ◌||◌, eqb, ltb, get_or, take}
 use Rattle.refusal.specs.Search.{some_below}
 use Rattle.refusal.specs.Table.{Lent, ◌of◌, short}
 use Rattle.algebra.specs.Rows.{Row}

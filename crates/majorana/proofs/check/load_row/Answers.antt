@@ -1,0 +1,44 @@
+-- `check::load_row` meets its contract: the part of the room that row r takes, joined from its two parts.
+use Prim.Native.Nat.{ℕ, ◌+◌, ◌-◌, ◌*◌, ◌≤◌}
+use native.Mathlib.Omega.{arith}
+use mathlib.Core.Path.{◌≡◌, ap, ap₂, ◌∙◌}
+use mathlib.Core.List.{List, ◌++◌}
+use lib.ListN.{length, take, drop}
+use Rattle.dense_block.proofs.Terms.{row_within, length_term}
+use Rattle.majorana.proofs.SetLaws.{x_row, z_row}
+use Rattle.majorana.proofs.check.load_row.Goals as goal
+use Rattle.majorana.proofs.check.load_row.Goals.{After-slice_known-1}
+
+inside : (c : After-slice_known-1) → c.args.r * (c.args.w + c.args.w) + (c.args.w + c.args.w) ≤ length c.args.room.now
+inside c = row_within c.args.r (2 * c.args.modes) (c.args.w + c.args.w) (length c.args.room.now) c.requires.1 c.requires.2
+
+pub overflow_mul-a : goal.overflow_mul-a
+overflow_mul-a c = record { fits = omega (arith, inside (goal.at.overflow_mul-a c).After-slice_known-1) }
+
+pub overflow_add-e : goal.overflow_add-e
+overflow_add-e c = record { fits = omega (arith, inside (goal.at.overflow_add-e c).After-slice_known-1) }
+
+pub offset_bounds-room-a : goal.offset_bounds-room-a
+offset_bounds-room-a c = record { fits = omega (arith, inside (goal.at.offset_bounds-room-a c).After-slice_known-1) }
+
+pub row-requires : goal.row-requires
+row-requires c = x_row c.requires.0 c.args.r c.requires.1
+
+pub row-requires-2 : goal.row-requires-2
+row-requires-2 c = z_row c.requires.0 c.args.r c.requires.1
+
+pub join-requires : goal.join-requires
+join-requires c =
+    let a = c.args in
+    let n : a.r * (a.w + a.w) + (a.w + a.w) - a.r * (a.w + a.w) ≡ a.w + a.w = omega arith in (
+      ap length c.row.ensures ∙ length_term a.w a.x.now a.r (x_row c.requires.0 a.r c.requires.1),
+      ap length c.row-2.ensures ∙ length_term a.w a.z.now a.r (z_row c.requires.0 a.r c.requires.1),
+      ap (λ (k : ℕ). length (take k (drop (a.r * (a.w + a.w)) a.room.now))) n ∙ length_term (a.w + a.w) a.room.now a.r (inside (goal.at.join-requires c).After-slice_known-1),
+    )
+
+pub returns : goal.returns
+returns c =
+    let a = c.args in
+    let n : a.r * (a.w + a.w) + (a.w + a.w) - a.r * (a.w + a.w) ≡ a.w + a.w = omega arith in
+    let rest = drop (a.r * (a.w + a.w)) a.room.now in
+    ap₂ (λ (l : List ℕ) (k : ℕ). take (a.r * (a.w + a.w)) a.room.now ++ (l ++ drop k rest)) (c.join.ensures ∙ ap₂ (λ (l m : List ℕ). l ++ m) c.row.ensures c.row-2.ensures) n
