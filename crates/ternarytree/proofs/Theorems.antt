@@ -7,12 +7,12 @@
 --
 -- The theorems that these rest on, over trees of any size:
 --   OneRoot     what refusal 8 means: `scattered` is false exactly if there is a root from which all nodes hang
---   Above       slots-anticommute: the rows of two slots that hold no node anticommute
---   WithLeaves  leaves-anticommute: the rows of a tree with leaves that passes its tests anticommute in pairs
---   Naive       naive_anticommute, naive-vacuum: the rows of a naive tree do so too, and meet the vacuum rule at zero
---   NamedTrees  named-passes: the four named trees pass the tests, for every n
---   Fit         naive_faithful, named_faithful, leaves-faithful: every occupation list encodes and decodes, on a tree with leaves if 13 is not given;
---               root-chain-empty: the Z chain of a naive tree's root ends empty
+--   Above       slots_anticommute: the rows of two slots that hold no node anticommute
+--   WithLeaves  leaves_anticommute: the rows of a tree with leaves that passes its tests anticommute in pairs
+--   Naive       naive_anticommute, naive_vacuum: the rows of a naive tree do so too, and meet the vacuum rule at zero
+--   NamedTrees  named_passes: the four named trees pass the tests, for every n
+--   Fit         naive_faithful, named_faithful, leaves_faithful: every occupation list encodes and decodes, on a tree with leaves if 13 is not given;
+--               root_chain_empty: the Z chain of a naive tree's root ends empty
 use Prim.Native.Nat.{ℕ, ◌*◌, ◌<◌, ◌≤◌}
 use native.Mathlib.Nat.{lt_of_lt_of_le}
 use native.Mathlib.Omega.{arith}

@@ -3,15 +3,15 @@
 --
 -- In plain words: take the row set that lies in the slices at exit, on the q qubits that were asked for (a named tree's: on as many as it has nodes), and the vacuum at
 -- exit.
---   Its sizes, phases and high bits pass, its rows anticommute in pairs, and the vacuum meets the rule: `flatpack-sound`, `named-sound`.
---   The slices are as long as they were lent: `flatpack-same-lengths`, `named-same-lengths`. So they are long enough: try_encode, given a list of ceil(n/64) words or more
---   and room for ceil(q/64), does not answer 2, nor does decode_zbasis_state, given a string of ceil(q/64) and room for ceil(n/64): `flatpack-long`, `named-long`.
---   In any room of 4n·ceil(q/64) words or more the row check accepts it: `flatpack-checked`, `named-checked`; so check_rows answers done: `flatpack-check-done`,
---   `named-check-done`.
+--   Its sizes, phases and high bits pass, its rows anticommute in pairs, and the vacuum meets the rule: `flatpack_sound`, `named_sound`.
+--   The slices are as long as they were lent: `flatpack_same_lengths`, `named_same_lengths`. So they are long enough: try_encode, given a list of ceil(n/64) words or more
+--   and room for ceil(q/64), does not answer 2, nor does decode_zbasis_state, given a string of ceil(q/64) and room for ceil(n/64): `flatpack_long`, `named_long`.
+--   In any room of 4n·ceil(q/64) words or more the row check accepts it: `flatpack_checked`, `named_checked`; so check_rows answers done: `flatpack_check_done`,
+--   `named_check_done`.
 --   Every list of n bits encodes on it, no two lists get the same string, decoding gives the list back, and it refuses exactly the strings that no call of try_encode
---   leaves: `flatpack-encodes`, `named-encodes`. These ask for lists, strings and rooms of the needed lengths, and nothing of the slices in which the tree was built.
+--   leaves: `flatpack_encodes`, `named_encodes`. These ask for lists, strings and rooms of the needed lengths, and nothing of the slices in which the tree was built.
 --
--- The idea: below 2n the rows that are stored are the tree's (`flatpack-stored`, `named-stored`), and the tests look at no other row. Rows that anticommute in pairs are
+-- The idea: below 2n the rows that are stored are the tree's (`flatpack_stored`, `named_stored`), and the tests look at no other row. Rows that anticommute in pairs are
 -- independent. The building call tested every length that the other calls need of a row set and a vacuum, and writing changes none.
 use Prim.Native.Nat.{ℕ, zero, suc, ◌+◌, ◌*◌, ◌<◌, ◌≤◌}
 use native.Mathlib.Omega.{arith}

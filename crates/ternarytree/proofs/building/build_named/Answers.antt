@@ -4,7 +4,6 @@ use lib.ListN.{get_or-replicate}
 use mathlib.Core.Path.{refl}
 use mathlib.Core.Bool.{false}
 use Rattle.trees.specs.Named.{named_tree}
-use Rattle.ternarytree.specs.Tables.{Ready}
 use Rattle.trees.proofs.NamedTrees.{named_passes}
 use Rattle.trees.proofs.Fit.{named_closed}
 use Rattle.ternarytree.proofs.ChainSteps.{children_most}
@@ -24,19 +23,18 @@ naive_slots-requires c =
 
 pub build_rows-requires : goal.build_rows-requires
 build_rows-requires c =
-    let ready : let a = c.args in Ready false (named_tree a.tree a.n) a.n a.w c.plant.new.parents c.plant.new.columns c.naive_slots.new.slots =
     let a = c.args in
-    named_ready a.tree a.n a.w c.plant.new.columns c.plant.new.parents c.plant.new.children c.naive_slots.new.slots c.requires.2 c.plant.ensures
-    (c.naive_slots.ensures.1 (named_tree a.tree a.n) c.plant.ensures.nodes)
-    in
-    (c.requires.0, omega (arith, c.requires.0, c.requires.2), (false, named_tree c.args.tree c.args.n, ready), c.requires.3, c.requires.4, c.requires.5)
+    let t = named_tree a.tree a.n in
+    let p = c.plant in
+    let ready = named_ready a.tree a.n a.w p.new.columns p.new.parents p.new.children c.naive_slots.new.slots c.requires.2 p.ensures
+    (c.naive_slots.ensures.1 t p.ensures.nodes) in
+    (c.requires.0, omega (arith, c.requires.0, c.requires.2), (false, t, ready), c.requires.3, c.requires.4, c.requires.5)
 
 pub returns : goal.returns
 returns c =
-    let ready : let a = c.args in Ready false (named_tree a.tree a.n) a.n a.w c.plant.new.parents c.plant.new.columns c.naive_slots.new.slots =
     let a = c.args in
-    named_ready a.tree a.n a.w c.plant.new.columns c.plant.new.parents c.plant.new.children c.naive_slots.new.slots c.requires.2 c.plant.ensures
-    (c.naive_slots.ensures.1 (named_tree a.tree a.n) c.plant.ensures.nodes)
-    in
-    let a = c.args in
-    tree_passed false (named_tree a.tree a.n) a.w _ _ _ _ _ _ _ _ _ (named_closed a.tree a.n) (record { passes = named_passes a.tree a.n; whole = refl }) (c.build_rows.ensures false (named_tree a.tree a.n) ready)
+    let t = named_tree a.tree a.n in
+    let p = c.plant in
+    let ready = named_ready a.tree a.n a.w p.new.columns p.new.parents p.new.children c.naive_slots.new.slots c.requires.2 p.ensures
+    (c.naive_slots.ensures.1 t p.ensures.nodes) in
+    tree_passed false t a.w _ _ _ _ _ _ _ _ _ (named_closed a.tree a.n) (record { passes = named_passes a.tree a.n; whole = refl }) (c.build_rows.ensures false t ready)

@@ -15,17 +15,20 @@ pub vacuum_met-requires : goal.vacuum_met-requires
 vacuum_met-requires c =
     let k = c.put_rows.auto in
     let (leaves, t, ok) = c.requires.2 in
-    (c.requires.0, omega (arith, c.requires.3, k.x), omega (arith, c.requires.5, k.phases), phases_small leaves t _ _ _ _ _ ok _ _ _ _ _ _ (c.put_rows.ensures t (slot_of leaves t) ok.ups ok.qubits ok.ends))
+    let wr = c.put_rows.ensures t (slot_of leaves t) ok.ups ok.qubits ok.ends in
+    (c.requires.0, omega (arith, c.requires.3, k.x), omega (arith, c.requires.5, k.phases), phases_small leaves t _ _ _ _ _ ok _ _ _ _ _ _ wr)
 
 pub returns-then-vacuum_met : goal.returns-then-vacuum_met
 returns-then-vacuum_met c =
     λ leaves t ok.
     let wr = c.put_rows.ensures t (slot_of leaves t) ok.ups ok.qubits ok.ends in
-    built_done leaves t _ _ _ _ _ ok _ _ _ _ _ _ wr _ _ c.clear.ensures (sym c.if-vacuum_met.true ∙ c.vacuum_met.ensures _ (stored leaves t _ _ _ _ _ ok _ _ _ _ _ _ wr))
+    let met = sym c.if-vacuum_met.true ∙ c.vacuum_met.ensures _ (stored leaves t _ _ _ _ _ ok _ _ _ _ _ _ wr) in
+    built_done leaves t _ _ _ _ _ ok _ _ _ _ _ _ wr _ _ c.clear.ensures met
 
 pub returns : goal.returns
 returns c =
     λ leaves t ok.
     let wr = c.put_rows.ensures t (slot_of leaves t) ok.ups ok.qubits ok.ends in
-    built_broken leaves t _ _ _ _ _ ok _ _ _ _ _ _ wr _ _ _ _ _ c.requires.3 c.requires.4 c.requires.5 c.clear.ensures (sym c.if-vacuum_met.false ∙ c.vacuum_met.ensures _ (stored leaves t _ _ _ _ _ ok _ _ _ _ _ _ wr))
+    let broken = sym c.if-vacuum_met.false ∙ c.vacuum_met.ensures _ (stored leaves t _ _ _ _ _ ok _ _ _ _ _ _ wr) in
+    built_broken leaves t _ _ _ _ _ ok _ _ _ _ _ _ wr _ _ _ _ _ c.requires.3 c.requires.4 c.requires.5 c.clear.ensures broken
     c.clear-2.ensures c.clear-3.ensures c.clear_phases.ensures

@@ -12,7 +12,9 @@ returns-then-bad_qubits c =
 pub build_flat-requires : goal.build_flat-requires
 build_flat-requires c =
     let a = c.args in
-    (c.requires.0, omega (arith, c.requires.2, c.requires.3), c.requires.1, c.requires.4, c.requires.5, qubits_lie a.entries.now a.n a.q a.w c.requires.3 (sym c.bad_qubits.ensures ∙ c.if-bad_qubits.false), c.requires.6, c.requires.7, c.requires.8)
+    let r = c.requires in
+    let lie = qubits_lie a.entries.now a.n a.q a.w r.3 (sym c.bad_qubits.ensures ∙ c.if-bad_qubits.false) in
+    (r.0, omega (arith, r.2, r.3), r.1, r.4, r.5, lie, r.6, r.7, r.8)
 
 pub returns : goal.returns
 returns c =

@@ -36,7 +36,9 @@ pub bounds-children-s : goal.bounds-children-s
 bounds-children-s c = omega arith
 
 pub returns-then-next-eq0 : goal.returns-then-next-eq0
-returns-then-next-eq0 c = (c.loop-left.invariant.0, λ t w. sym (c.loop-left.invariant.2 t w ∙ end_stop t c.loop-left.left c.loop-left.s (sym (w.nodes c.loop-left.s c.loop-left.invariant.0) ∙ c.if-next-eq0.true)))
+returns-then-next-eq0 c =
+    let l = c.loop-left in
+    (l.invariant.0, λ t w. sym (l.invariant.2 t w ∙ end_stop t l.left l.s (sym (w.nodes l.s l.invariant.0) ∙ c.if-next-eq0.true)))
 
 pub overflow_sub-s-in-loop-left : goal.overflow_sub-s-in-loop-left
 overflow_sub-s-in-loop-left c = omega arith

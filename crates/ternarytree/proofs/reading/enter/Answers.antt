@@ -23,7 +23,11 @@ pub bounds-table-q : goal.bounds-table-q
 bounds-table-q c = omega (arith, small (goal.at.bounds-table-q c).In-loop-i)
 
 pub returns-then-table-q-ne0 : goal.returns-then-table-q-ne0
-returns-then-table-q-ne0 c = (c.loop-i.invariant.1, sym (twice_at (qubit_at c.args.entries.now) c.args.n c.loop-i.i c.loop-i.table (omega arith) c.loop-i.invariant.2 (small (goal.at.returns-then-table-q-ne0 c).In-loop-i) c.if-table-q-ne0.true), λ e. absurd (never refl e))
+returns-then-table-q-ne0 c =
+    let l = c.loop-i in
+    let low = small (goal.at.returns-then-table-q-ne0 c).In-loop-i in
+    let two = twice_at (qubit_at c.args.entries.now) c.args.n l.i l.table (omega arith) l.invariant.2 low c.if-table-q-ne0.true in
+    (l.invariant.1, sym two, λ e. absurd (never refl e))
 
 pub offset_bounds-table-q-in-loop-i : goal.offset_bounds-table-q-in-loop-i
 offset_bounds-table-q-in-loop-i c = record { fits = omega (arith, small (goal.at.offset_bounds-table-q-in-loop-i c).In-loop-i) }

@@ -10,8 +10,7 @@ use Rattle.ternarytree.proofs.reading.wire.Goals.{After-child_in-o}
 
 held : (c : After-child_in-o) → (flat c.args.leaves c.args.n c.args.entries.now c.args.filled.now).child c.loop-k.k ≡ c.child_in-o.result
 held c =
-    wiring_child c.args.leaves c.args.entries.now c.args.filled.now c.args.n (c.enter.new.table) c.past_all-top.result c.loop-k.parents c.loop-k.children c.loop-k.slots c.loop-k.k c.loop-k.invariant
-    c.requires.3 c.slot_at.result c.child_in-o.result c.slot_at.ensures c.child_in-o.ensures
+    wiring_child _ _ _ _ _ _ _ _ _ _ c.loop-k.invariant c.requires.3 c.slot_at.result c.child_in-o.result c.slot_at.ensures c.child_in-o.ensures
 
 pub enter-requires : goal.enter-requires
 enter-requires c = let p = c.requires in (p.0, p.1, p.3, λ j h. get_or-replicate 256 j 0 0 h, refl)
@@ -41,16 +40,14 @@ loop-k-init c =
 pub node_code-requires : goal.node_code-requires
 node_code-requires c = (
   c.requires.0,
-  wiring_below c.args.leaves c.args.entries.now c.args.filled.now c.args.n (c.enter.new.table) c.past_all-top.result c.loop-k.parents c.loop-k.children c.loop-k.slots c.loop-k.k c.loop-k.invariant
-      c.child_in-o.result (held (goal.at.node_code-requires c).After-child_in-o),
+  wiring_below _ _ _ _ _ _ _ _ _ _ c.loop-k.invariant c.child_in-o.result (held (goal.at.node_code-requires c).After-child_in-o),
 )
 
 pub place-number-requires : goal.place-number-requires
 place-number-requires c = (
   c.requires.0,
   c.loop-k-test.true,
-  wiring_below c.args.leaves c.args.entries.now c.args.filled.now c.args.n (c.enter.new.table) c.past_all-top.result c.loop-k.parents c.loop-k.children c.loop-k.slots c.loop-k.k c.loop-k.invariant
-      c.child_in-o.result (held (goal.at.place-number-requires c).After-child_in-o),
+  wiring_below _ _ _ _ _ _ _ _ _ _ c.loop-k.invariant c.child_in-o.result (held (goal.at.place-number-requires c).After-child_in-o),
   c.loop-k.invariant.ps_length,
   c.loop-k.invariant.ls_length,
 )
@@ -58,19 +55,19 @@ place-number-requires c = (
 pub returns-then-number-ne0 : goal.returns-then-number-ne0
 returns-then-number-ne0 c =
     let y = c.place-number in
-    let r = wiring_fault c.args.leaves c.args.entries.now c.args.filled.now c.args.n (c.enter.new.table) c.past_all-top.result c.loop-k.parents c.loop-k.children c.loop-k.slots c.loop-k.k c.loop-k.invariant
-    c.child_in-o.result y.result c.loop-k-test.true (held (goal.at.returns-then-number-ne0 c).After-child_in-o) (y.ensures.2 (flat c.args.leaves c.args.n c.args.entries.now c.args.filled.now) (held (goal.at.returns-then-number-ne0 c).After-child_in-o) c.loop-k.invariant.wired).0 c.if-number-ne0.true in
+    let at = held (goal.at.returns-then-number-ne0 c).After-child_in-o in
+    let q = y.ensures.2 (flat c.args.leaves c.args.n c.args.entries.now c.args.filled.now) at c.loop-k.invariant.wired in
+    let r = wiring_fault _ _ _ _ _ _ _ _ _ _ c.loop-k.invariant c.child_in-o.result y.result c.loop-k-test.true at q.0 c.if-number-ne0.true in
     (r.0, λ z. absurd (c.if-number-ne0.true z), r.1)
 
 pub loop-k-preserved : goal.loop-k-preserved
 loop-k-preserved c =
     let y = c.place-number in
-    let q = y.ensures.2 (flat c.args.leaves c.args.n c.args.entries.now c.args.filled.now) (held (goal.at.loop-k-preserved c).After-child_in-o) c.loop-k.invariant.wired in
-    wiring_next c.args.leaves c.args.entries.now c.args.filled.now c.args.n (c.enter.new.table) c.past_all-top.result c.loop-k.parents c.loop-k.children c.loop-k.slots c.loop-k.k c.loop-k.invariant
-    c.child_in-o.result y.result c.node_code.result _ _ c.requires.0 c.loop-k-test.true (held (goal.at.loop-k-preserved c).After-child_in-o) c.node_code.ensures q.0 c.if-number-ne0.false
-    y.ensures.0 y.ensures.1 (q.1 c.if-number-ne0.false)
+    let at = held (goal.at.loop-k-preserved c).After-child_in-o in
+    let q = y.ensures.2 (flat c.args.leaves c.args.n c.args.entries.now c.args.filled.now) at c.loop-k.invariant.wired in
+    wiring_next _ _ _ _ _ _ _ _ _ _ c.loop-k.invariant c.child_in-o.result y.result c.node_code.result _ _ c.requires.0 c.loop-k-test.true
+    at c.node_code.ensures q.0 c.if-number-ne0.false y.ensures.0 y.ensures.1 (q.1 c.if-number-ne0.false)
 
 pub returns : goal.returns
 returns c =
-    wiring_end c.args.leaves c.args.entries.now c.args.filled.now c.args.n (c.enter.new.table) c.past_all-top.result c.loop-k.parents c.loop-k.children c.loop-k.slots c.loop-k.k c.loop-k.invariant
-    c.loop-k-test.false
+    wiring_end _ _ _ _ _ _ _ _ _ _ c.loop-k.invariant c.loop-k-test.false

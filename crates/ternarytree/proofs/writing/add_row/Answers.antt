@@ -19,11 +19,17 @@ z_fits : (c : At-loop-n) → nth c.args.columns.now c.loop-n.i / 64 < length c.l
 z_fits c = rw c.loop-n.invariant.5 (c.requires.4 c.loop-n.i c.loop-n.invariant.0)
 
 -- a letter more is written
-letter_written : (c : At-loop-n) (y : ℕ) (xs zs : List ℕ) → y ≡ (letter_at c.loop-n.l 0).p → xs ≡ lettered (letter_at c.loop-n.l 1).x c.loop-n.x (nth c.args.columns.now c.loop-n.i) → zs ≡ lettered (letter_at c.loop-n.l 1).z c.loop-n.z (nth c.args.columns.now c.loop-n.i) → (t : Tree) → Links t c.args.n c.args.links.now → Columns t c.args.n c.args.columns.now → Left t c.args.k (value c.args.x.now) (value c.args.z.now) ((c.loop-n.p + y) % 4) xs zs (above t c.loop-n.left c.loop-n.i)
+letter_written : (c : At-loop-n) (y : ℕ) (xs zs : List ℕ)
+    → y ≡ (letter_at c.loop-n.l 0).p
+    → xs ≡ lettered (letter_at c.loop-n.l 1).x c.loop-n.x (nth c.args.columns.now c.loop-n.i)
+    → zs ≡ lettered (letter_at c.loop-n.l 1).z c.loop-n.z (nth c.args.columns.now c.loop-n.i)
+    → (t : Tree) → Links t c.args.n c.args.links.now → Columns t c.args.n c.args.columns.now
+    → Left t c.args.k (value c.args.x.now) (value c.args.z.now) ((c.loop-n.p + y) % 4) xs zs (above t c.loop-n.left c.loop-n.i)
 letter_written c y xs zs e f g t u v =
     let l = c.loop-n in
     let a = c.args in
-    left_letter t a.k (value a.x.now) (value a.z.now) l.i l.l l.left l.p y (nth a.columns.now l.i) l.x l.z xs zs (l.invariant.8 t u v) (v.qubits l.i l.invariant.0) e (x_fits c) (z_fits c) l.invariant.6 l.invariant.7 f g
+    left_letter t a.k (value a.x.now) (value a.z.now) l.i l.l l.left l.p y (nth a.columns.now l.i) l.x l.z xs zs (l.invariant.8 t u v)
+    (v.qubits l.i l.invariant.0) e (x_fits c) (z_fits c) l.invariant.6 l.invariant.7 f g
 
 pub loop-n-init : goal.loop-n-init
 loop-n-init c = (
@@ -52,22 +58,25 @@ returns-then-up-lt4 c =
     let l = c.loop-n in
     let a = c.args in
     let y = c.put_letter-y in
+    let written = letter_written (goal.at.returns-then-up-lt4 c).At-loop-n _ _ _ y.ensures.0 y.ensures.1 y.ensures.2 in
     λ t q v. left_none t a.k (value a.x.now) (value a.z.now) _ a.x.now a.z.now _ _ (above t l.left l.i) refl refl
-    (above_stop t l.left l.i _ (q.ups l.i l.invariant.0) c.if-up-lt4.true) (omega arith) (letter_written (goal.at.returns-then-up-lt4 c).At-loop-n _ _ _ y.ensures.0 y.ensures.1 y.ensures.2 t q v)
+    (above_stop t l.left l.i _ (q.ups l.i l.invariant.0) c.if-up-lt4.true) (omega arith) (written t q v)
 
 pub returns-then-left-eq0 : goal.returns-then-left-eq0
 returns-then-left-eq0 c =
     let l = c.loop-n in
     let a = c.args in
     let y = c.put_letter-y in
+    let written = letter_written (goal.at.returns-then-left-eq0 c).At-loop-n _ _ _ y.ensures.0 y.ensures.1 y.ensures.2 in
     λ t q v. left_none t a.k (value a.x.now) (value a.z.now) _ a.x.now a.z.now _ _ (above t l.left l.i) refl refl
-    (above_zero t l.left l.i c.if-left-eq0.true) (omega arith) (letter_written (goal.at.returns-then-left-eq0 c).At-loop-n _ _ _ y.ensures.0 y.ensures.1 y.ensures.2 t q v)
+    (above_zero t l.left l.i c.if-left-eq0.true) (omega arith) (written t q v)
 
 pub loop-n-preserved : goal.loop-n-preserved
 loop-n-preserved c =
     let l = c.loop-n in
     let a = c.args in
     let y = c.put_letter-y in
+    let written = letter_written (goal.at.loop-n-preserved c).At-loop-n _ _ _ y.ensures.0 y.ensures.1 y.ensures.2 in
     let w = c.requires.2 l.i l.invariant.0 in (
       omega (arith, w.0, c.if-up-lt4.false),
       w.1,
@@ -78,5 +87,5 @@ loop-n-preserved c =
       λ i. (c.type_inv.x i).fits,
       λ i. (c.type_inv.z i).fits,
       λ t q v. left_step t a.k (value a.x.now) (value a.z.now) _ _ _ (above t l.left l.i) _
-          (above_step t l.left l.i _ (q.ups l.i l.invariant.0) (omega (arith, c.if-up-lt4.false)) c.if-left-eq0.false) (letter_written (goal.at.loop-n-preserved c).At-loop-n _ _ _ y.ensures.0 y.ensures.1 y.ensures.2 t q v),
+          (above_step t l.left l.i _ (q.ups l.i l.invariant.0) (omega (arith, c.if-up-lt4.false)) c.if-left-eq0.false) (written t q v),
     )
