@@ -1,4 +1,4 @@
--- `pauli::remainder` meets its contract: neither the quotient nor the remainder is larger than the number, so both fit.
+-- `pauli::remainder` meets its contract: the remainder is below 4, so it fits.
 use native.Mathlib.Omega.{arith}
 use mathlib.Core.Path.{◌≡◌, ap, ◌∙◌}
 use lib.IntN.{ℤ, pos}

@@ -1,5 +1,5 @@
 -- `check::load_row` meets its contract: the part of the room that row r takes, joined from its two parts.
-use Prim.Native.Nat.{ℕ, ◌+◌, ◌-◌, ◌*◌, ◌≤◌}
+use Prim.Native.Nat.{ℕ, ◌+◌, ◌-◌, ◌*◌, ◌≤◌, ◌<◌}
 use native.Mathlib.Omega.{arith}
 use mathlib.Core.Path.{◌≡◌, ap, ap₂, ◌∙◌}
 use mathlib.Core.List.{List, ◌++◌}
@@ -7,19 +7,19 @@ use lib.ListN.{length, take, drop}
 use Rattle.dense_block.proofs.Terms.{row_within, length_term}
 use Rattle.majorana.proofs.SetLaws.{x_row, z_row}
 use Rattle.majorana.proofs.check.load_row.Goals as goal
-use Rattle.majorana.proofs.check.load_row.Goals.{After-slice_known-1}
 
-inside : (c : After-slice_known-1) → c.args.r * (c.args.w + c.args.w) + (c.args.w + c.args.w) ≤ length c.args.room.now
-inside c = row_within c.args.r (2 * c.args.modes) (c.args.w + c.args.w) (length c.args.room.now) c.requires.1 c.requires.2
+-- row r lies in the room
+inside : (r modes w room : ℕ) → r < 2 * modes → 2 * modes * (w + w) ≤ room → r * (w + w) + (w + w) ≤ room
+inside r modes w room h k = row_within r (2 * modes) (w + w) room h k
 
 pub overflow_mul-a : goal.overflow_mul-a
-overflow_mul-a c = record { fits = omega (arith, inside (goal.at.overflow_mul-a c).After-slice_known-1) }
+overflow_mul-a c = record { fits = omega (arith, inside c.args.r c.args.modes c.args.w _ c.requires.1 c.requires.2) }
 
 pub overflow_add-e : goal.overflow_add-e
-overflow_add-e c = record { fits = omega (arith, inside (goal.at.overflow_add-e c).After-slice_known-1) }
+overflow_add-e c = record { fits = omega (arith, inside c.args.r c.args.modes c.args.w _ c.requires.1 c.requires.2) }
 
 pub offset_bounds-room-a : goal.offset_bounds-room-a
-offset_bounds-room-a c = record { fits = omega (arith, inside (goal.at.offset_bounds-room-a c).After-slice_known-1) }
+offset_bounds-room-a c = record { fits = omega (arith, inside c.args.r c.args.modes c.args.w _ c.requires.1 c.requires.2) }
 
 pub row-requires : goal.row-requires
 row-requires c = x_row c.requires.0 c.args.r c.requires.1
@@ -33,7 +33,7 @@ join-requires c =
     let n : a.r * (a.w + a.w) + (a.w + a.w) - a.r * (a.w + a.w) ≡ a.w + a.w = omega arith in (
       ap length c.row.ensures ∙ length_term a.w a.x.now a.r (x_row c.requires.0 a.r c.requires.1),
       ap length c.row-2.ensures ∙ length_term a.w a.z.now a.r (z_row c.requires.0 a.r c.requires.1),
-      ap (λ (k : ℕ). length (take k (drop (a.r * (a.w + a.w)) a.room.now))) n ∙ length_term (a.w + a.w) a.room.now a.r (inside (goal.at.join-requires c).After-slice_known-1),
+      ap (λ (k : ℕ). length (take k (drop (a.r * (a.w + a.w)) a.room.now))) n ∙ length_term (a.w + a.w) a.room.now a.r (inside c.args.r c.args.modes c.args.w _ c.requires.1 c.requires.2),
     )
 
 pub returns : goal.returns

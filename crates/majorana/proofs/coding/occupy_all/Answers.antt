@@ -22,7 +22,7 @@ pub loop-k-init : goal.loop-k-init
 unfolding encode
 loop-k-init c =
     let starts : c.copy.new.dst ≡ c.args.vacuum.now = c.copy.ensures ∙ copied_whole c.args.s.now c.args.vacuum.now (c.requires.2 ∙ sym c.requires.1) in
-    (omega arith, ap length starts ∙ c.requires.1, λ j. (c.slice_known-2-1.given j).fits, ap₂ (λ (l : List ℕ) (f : ℕ). encode_from (let a = c.args in modes_at a.modes a.w a.x.now a.z.now a.phases.now) (value c.args.list.now) c.args.modes (done (value l) f)) starts phase_none)
+    (omega arith, ap length starts ∙ c.requires.1, λ j. (c.type_inv.s j).fits, ap₂ (λ (l : List ℕ) (f : ℕ). encode_from (let a = c.args in modes_at a.modes a.w a.x.now a.z.now a.phases.now) (value c.args.list.now) c.args.modes (done (value l) f)) starts phase_none)
 
 pub difference-d-requires : goal.difference-d-requires
 difference-d-requires c = (c.requires.0, omega arith)
@@ -62,7 +62,7 @@ loop-k-preserved-then-get_index c =
     let turned = phase_next (lo m (l.k - 1)) (value l.s) l.f.power c.add-f.result.power l.fold a.result.first c.add-f.ensures a.ensures.0.first in (
       omega arith,
       a.auto.s ∙ l.invariant.1,
-      λ j. (c.slice_known-then-get_index-1.given j).fits,
+      λ j. (c.type_inv.s j).fits,
       rw (a.ensures.1, turned)
           (sym (step_take m (value c.args.list.now) l.k (value l.s) _ (omega arith) (taken ∙ c.if-get_index.true) (is_empty_lem ∙ vacant)) ∙ l.invariant.3),
     )

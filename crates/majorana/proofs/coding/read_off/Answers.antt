@@ -23,7 +23,7 @@ use Rattle.majorana.proofs.coding.read_off.Goals as goal
 
 pub loop-i-init : goal.loop-i-init
 unfolding decode
-loop-i-init c = (omega arith, c.requires.2, refl, λ k. (c.slice_known-1.given k).fits, λ k. (c.slice_known-2-1.given k).fits, (0, c.requires.4 ∙ sym (zero-mul (2 ^ c.args.modes)), refl))
+loop-i-init c = (omega arith, c.requires.2, refl, λ k. (c.type_inv.s k).fits, λ k. (c.type_inv.l k).fits, (0, c.requires.4 ∙ sym (zero-mul (2 ^ c.args.modes)), refl))
 
 pub difference-d-requires : goal.difference-d-requires
 difference-d-requires c = (c.requires.0, omega arith)
@@ -55,12 +55,12 @@ loop-i-preserved-then-is_seen c =
     let digits : value put.new.s ≡ (2 * l.invariant.5.0 + 1) * 2 ^ (l.i - 1) =
     ap value put.ensures ∙ value_put l.l (l.i - 1) true (omega arith) l.invariant.4 ∙ digit_one (value l.l) l.invariant.5.0 l.i (omega arith) l.invariant.5.1 in
     let bits : value c.xor_assign.new.dst ≡ state (lo (let a = c.args in modes_at a.modes a.w a.x.now a.z.now a.phases.now) (l.i - 1)) (value l.s) =
-    ap value (rw c.row.ensures at xor) ∙ moved c.requires.0 (l.i - 1) (omega arith) l.s l.invariant.1 (λ j. (c.shared_slice_known-1.given j).fits) l.invariant.3 in (
+    ap value (rw c.row.ensures at xor) ∙ moved c.requires.0 (l.i - 1) (omega arith) l.s l.invariant.1 (λ j. (c.type_inv.x j).fits) l.invariant.3 in (
       omega arith,
       ap length xor ∙ length_along bit_xor l.s _ ∙ l.invariant.1,
       put.auto.s ∙ l.invariant.2,
-      λ j. (c.slice_known-then-is_seen-2-1.given j).fits,
-      λ j. (c.slice_known-then-is_seen-1.given j).fits,
+      λ j. (c.type_inv.s j).fits,
+      λ j. (c.type_inv.l j).fits,
       (
         2 * l.invariant.5.0 + 1,
         digits,
@@ -92,5 +92,5 @@ returns c =
     let v = (value c.args.vacuum.now) in
     let none : l.i ≡ 0 = omega arith in
     let digits : value l.l ≡ l.invariant.5.0 = rw none at l.invariant.5.1 ∙ mul-one l.invariant.5.0 in
-    let same = c.same.ensures ∙ alike_value l.s c.args.vacuum.now (l.invariant.1 ∙ sym c.requires.1) l.invariant.3 (λ k. (c.shared_slice_known-4-1.given k).fits) in
+    let same = c.same.ensures ∙ alike_value l.s c.args.vacuum.now (l.invariant.1 ∙ sym c.requires.1) l.invariant.3 (λ k. (c.type_inv.vacuum k).fits) in
     rw (same, digits) (picked (eqb (value l.s) v) l.invariant.5.0 ∙ sym (back_end (let a = c.args in modes_at a.modes a.w a.x.now a.z.now a.phases.now) v l.i l.invariant.5.0 (value l.s) (omega arith))) ∙ l.invariant.5.2

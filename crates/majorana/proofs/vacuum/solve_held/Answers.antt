@@ -29,7 +29,7 @@ returns c =
     let ws = c.load_equations.new.room in
     let call = c.solve_rows in
     let all = all_paired_lem m (sym c.all_paired.ensures ∙ c.if-not-all_paired.false) in
-    let words : Words a.z.now = λ i. (c.shared_slice_known-2-1.given i).fits in
+    let words : Words a.z.now = λ i. (c.type_inv.z i).fits in
     let r = solve_call m a.qubits a.w ws a.v.now call.new.v call.new.room call.result call.ensures all
     (both (fits_of 256 5 a.modes (a.w + 1) (length ws) (record { few = c.requires.0.fits.modes; narrow = omega (arith, c.requires.0.fits.words); inside = omega (arith, c.requires.4, loaded.same.long) })) (le-leb a.w (length a.v.now) c.requires.3))
     c.requires.2
