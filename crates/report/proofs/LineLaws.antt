@@ -37,31 +37,32 @@ length_three a b c =
 
 -- what a line leaves
 abbrev pub Leaves : List ℕ → List ℕ → ℕ → List ℕ → Type 0
-Leaves line out r e = (r ≡ wrote line out) × (e ≡ written line out)
+Leaves line out r e = record { count : r ≡ wrote line out; bytes : e ≡ written line out }
 
 pub too_short : (line out : List ℕ) → length out < length line → Leaves line out 0 out
 unfolding wrote written
-too_short line out h = (rw (lt-leb (length line) (length out) h), rw (lt-leb (length line) (length out) h))
+too_short line out h = record { count = rw (lt-leb (length line) (length out) h); bytes = rw (lt-leb (length line) (length out) h) }
 
 fits : (line out : List ℕ) {r : ℕ} {e : List ℕ} → length line ≤ length out → r ≡ 0 + length line → e ≡ sets out 0 line → Leaves line out r e
 unfolding wrote written
 fits line out h p q =
-    let k : 0 + length line ≤ length out = omega arith in (
-      p ∙ zero-add (length line) ∙ rw (le-leb (length line) (length out) h),
-      q ∙ sets-eq line out 0 k ∙ rw (zero-add (length line), le-leb (length line) (length out) h),
-    )
+    let k : 0 + length line ≤ length out = omega arith in
+    record {
+      count = p ∙ zero-add (length line) ∙ rw (le-leb (length line) (length out) h);
+      bytes = q ∙ sets-eq line out 0 k ∙ rw (zero-add (length line), le-leb (length line) (length out) h);
+    }
 
 -- ---- fields one after the other, from a place on
 
 -- a line at a place, and the place after it
 abbrev pub Stored : List ℕ → ℕ → List ℕ → ℕ → List ℕ → Type 0
-Stored out at line r e = (r ≡ at + length line) × (e ≡ sets out at line)
+Stored out at line r e = record { place : r ≡ at + length line; bytes : e ≡ sets out at line }
 
 pub at_front : (line out : List ℕ) {r : ℕ} {e : List ℕ} → length line ≤ length out → Stored out 0 line r e → Leaves line out r e
-at_front line out h s = fits line out h s.0 s.1
+at_front line out h s = fits line out h s.place s.bytes
 
 pub stored_same : {a b : List ℕ} (out : List ℕ) (at r : ℕ) (e : List ℕ) → a ≡ b → Stored out at a r e → Stored out at b r e
-stored_same out at r e h s = (s.0 ∙ ap (λ (l : List ℕ). at + length l) h, s.1 ∙ ap (sets out at) h)
+stored_same out at r e h s = record { place = s.place ∙ ap (λ (l : List ℕ). at + length l) h; bytes = s.bytes ∙ ap (sets out at) h }
 
 module _ (out : List ℕ) (at : ℕ) (a : List ℕ) {r : ℕ} {d : List ℕ} (p : r ≡ at + length (field a 9)) (q : d ≡ sets out at (field a 9)) where
   -- after one field there is room for a second of k bytes and what ends it
@@ -79,7 +80,7 @@ module _ (out : List ℕ) (at : ℕ) (a : List ℕ) {r : ℕ} {d : List ℕ} (p 
     pub three_stored : (c : List ℕ) {t : ℕ} {f : List ℕ} → t ≡ s + length (field c 10) → f ≡ sets e s (field c 10) → Stored out at (line_from (a ∷ b ∷ c ∷ [])) t f
     three_stored c {t} {f} x y =
         let i = join out at (field a 9) (field b 9) p q u v in
-        stored_same out at t f (three_fields a b c) (join out at (field a 9 ++ field b 9) (field c 10) i.0 i.1 x y)
+        stored_same out at t f (three_fields a b c) (join out at (field a 9 ++ field b 9) (field c 10) i.place i.bytes x y)
 
 -- ---- the rows
 
@@ -110,7 +111,7 @@ room_next k count s place at n size h l p q =
 pub rows_next : (out : List ℕ) {d e : List ℕ} {r t : ℕ} (at q : ℕ) (row : ℕ → Row) (k : ℕ) {l : List ℕ} → l ≡ row_line q k (row k)
     → Stored out at (row_lines q row k) r d → Stored d r l t e → Stored out at (row_lines q row (k + 1)) t e
 rows_next out {d} {e} {r} {t} at q row k {l} h s u =
-    stored_same out at t e (ap (λ (m : List ℕ). row_lines q row k ++ m) h ∙ sym (ap (row_lines q row) (add-one k))) (join out at (row_lines q row k) l s.0 s.1 u.0 u.1)
+    stored_same out at t e (ap (λ (m : List ℕ). row_lines q row k ++ m) h ∙ sym (ap (row_lines q row) (add-one k))) (join out at (row_lines q row k) l s.place s.bytes u.place u.bytes)
 
 -- a row's line from the parts that are lent
 pub row_same : (q k w : ℕ) (xs zs ps : List ℕ) {p : ℕ} {ts us : List ℕ} → w ≡ words_for q → p ≡ get_or ps k 0 → ts ≡ term_of w xs k → us ≡ term_of w zs k

@@ -4,7 +4,7 @@ use native.Mathlib.Omega.{arith}
 use mathlib.Core.Path.{◌≡◌, refl, sym, ap, ◌∙◌, subst}
 use mathlib.Core.List.{List, [], ◌∷◌}
 use mathlib.Core.Bool.{Bool, true, false}
-use lib.ListN.{length, replicate}
+use lib.ListN.{replicate}
 use Rattle.refusal.specs.declared.Answer.{Answer}
 use Rattle.refusal.specs.declared.Answer.TheVariants.{Done, Refused}
 use Rattle.refusal.specs.declared.Refusal.{Refusal}
@@ -36,16 +36,17 @@ not_zero zero new old h = absurd (h refl)
 not_zero (suc k) new old h = refl
 
 module _ {a : Answer} (n q : ℕ) (row : ℕ → Row) (v : ℕ) (out : List ℕ) {r : ℕ} {e : List ℕ} where
-  pub tells_report : a ≡ Done → r ≡ report_length n q row v out → e ≡ reported n q row v out → (r ≡ said_length (answered a) n q row v out) × (e ≡ said (answered a) n q row v out)
-  tells_report h p s = rw h (p, s)
+  pub tells_report : a ≡ Done → r ≡ report_length n q row v out → e ≡ reported n q row v out
+      → record { count : r ≡ said_length (answered a) n q row v out; bytes : e ≡ said (answered a) n q row v out }
+  tells_report h p s = rw h (record { count = p; bytes = s })
 
   pub tells_refusal : (why : Refusal) {k : ℕ} → a ≡ Refused why → k ≡ (paper why).number → r ≡ wrote (refused_line k) out → e ≡ written (refused_line k) out
-      → (r ≡ said_length (answered a) n q row v out) × (e ≡ said (answered a) n q row v out)
+      → record { count : r ≡ said_length (answered a) n q row v out; bytes : e ≡ said (answered a) n q row v out }
   tells_refusal why {k} h c p s =
-      rw h (
-        p ∙ ap (λ (k : ℕ). wrote (refused_line k) out) c ∙ sym (not_zero (paper why).number (report_length n q row v out) (wrote (refused_line (paper why).number) out) (refused_number why)),
-        s ∙ ap (λ (k : ℕ). written (refused_line k) out) c ∙ sym (not_zero (paper why).number (reported n q row v out) (written (refused_line (paper why).number) out) (refused_number why)),
-      )
+      rw h (record {
+        count = p ∙ ap (λ (k : ℕ). wrote (refused_line k) out) c ∙ sym (not_zero (paper why).number (report_length n q row v out) (wrote (refused_line (paper why).number) out) (refused_number why));
+        bytes = s ∙ ap (λ (k : ℕ). written (refused_line k) out) c ∙ sym (not_zero (paper why).number (reported n q row v out) (written (refused_line (paper why).number) out) (refused_number why));
+      })
 
 -- ---- rows that are the same to the last are reported alike
 

@@ -57,20 +57,13 @@ phrase_short OddModes = leb-true _ _ refl
 
 -- ---- pieces
 
--- the words of a case
-pub phrase_stored : (out : List ℕ) (at end : ℕ) {w v : Refusal} {r : ℕ} {e : List ℕ} → w ≡ v → Stored out at (piece (phrase v) end) r e → Stored out at (piece (phrase w) end) r e
-phrase_stored out at end {w} {v} {r} {e} h s = stored_same out at r e (ap (λ (v : Refusal). piece (phrase v) end) (sym h)) s
-
-pub spot_stored : (out : List ℕ) (at : ℕ) {w v : Spot} {r : ℕ} {e : List ℕ} → w ≡ v → Stored out at (piece (spot_words v) 10) r e → Stored out at (piece (spot_words w) 10) r e
-spot_stored out at {w} {v} {r} {e} h s = stored_same out at r e (ap (λ (v : Spot). piece (spot_words v) 10) (sym h)) s
-
 -- one piece after another
 pub after_piece : (out : List ℕ) (at : ℕ) (a b : List ℕ) {r s : ℕ} {d e : List ℕ} → Stored out at a r d → Stored d r b s e → Stored out at (a ++ b) s e
-after_piece out at a b p q = join out at a b p.0 p.1 q.0 q.1
+after_piece out at a b p q = join out at a b p.place p.bytes q.place q.bytes
 
 -- a piece moves the place by its length, and changes no length of the buffer
 pub moved : (out : List ℕ) (at : ℕ) (line : List ℕ) {r : ℕ} {e : List ℕ} → Stored out at line r e → (r ≡ at + length line) × (length e ≡ length out)
-moved out at line s = (s.0, ap length s.1 ∙ length-sets out at line)
+moved out at line s = (s.place, ap length s.bytes ∙ length-sets out at line)
 
 spot_short : (spot : Spot) → length (spot_words spot) ≤ 8
 spot_short Line = leb-true _ _ refl
@@ -112,9 +105,10 @@ place_short (suc k) spot h =
 
 -- ---- the sentence
 
-pub not_explained : (why : Refusal) (line : ℕ) (spot : Spot) (out : List ℕ) → length out < 256 → (0 ≡ explained_length why line spot out) × (out ≡ explained why line spot out)
+pub not_explained : (why : Refusal) (line : ℕ) (spot : Spot) (out : List ℕ) → length out < 256
+    → record { count : 0 ≡ explained_length why line spot out; bytes : out ≡ explained why line spot out }
 unfolding explained_length explained
-not_explained why line spot out h = (rw (lt-leb 256 (length out) h), rw (lt-leb 256 (length out) h))
+not_explained why line spot out h = record { count = rw (lt-leb 256 (length out) h); bytes = rw (lt-leb 256 (length out) h) }
 
 module _ (out : List ℕ) (why : Refusal) (line : ℕ) (spot : Spot) (room : 256 ≤ length out) (low : line < 18446744073709551616) {r : ℕ} {d : List ℕ} (a : Stored out 0 (piece opening 32) r d) where
   pub code_fits : (n : ℕ) → n < 256 → r + length (digits_of n) < length d
@@ -138,7 +132,8 @@ module _ (out : List ℕ) (why : Refusal) (line : ℕ) (spot : Spot) (room : 256
             phrase_short why,
           )
 
-      pub sentence_stored : {u : ℕ} {g : List ℕ} → Stored f t (place line spot) u g → (u ≡ explained_length why line spot out) × (g ≡ explained why line spot out)
+      pub sentence_stored : {u : ℕ} {g : List ℕ} → Stored f t (place line spot) u g
+          → record { count : u ≡ explained_length why line spot out; bytes : g ≡ explained why line spot out }
       unfolding sentence explained_length explained
       sentence_stored {u} {g} h =
           let p = piece (digits_of (paper why).number) 58 in
@@ -148,7 +143,8 @@ module _ (out : List ℕ) (why : Refusal) (line : ℕ) (spot : Spot) (room : 256
           (after_piece d r p (q ++ place line spot) (stored_same d r s e (ap (λ (k : ℕ). piece (digits_of k) 58) code) b)
           (after_piece e s q (place line spot) (stored_same e s t f (ap (piece (phrase why)) mark) c) h)) in
           let k : 0 + length (sentence why line spot) ≤ length out =
-          omega (arith, whole.0, moved f t (place line spot) h, place_fits, place_short line spot low, moved e s (piece (phrase why) m) c, moved d r (piece (digits_of n) 58) b, moved out 0 (piece opening 32) a) in (
-            whole.0 ∙ rw (le-leb 256 (length out) room, zero-add (length (sentence why line spot))),
-            whole.1 ∙ sets-eq (sentence why line spot) out 0 k ∙ rw (le-leb 256 (length out) room, zero-add (length (sentence why line spot))),
-          )
+          omega (arith, whole.place, moved f t (place line spot) h, place_fits, place_short line spot low, moved e s (piece (phrase why) m) c, moved d r (piece (digits_of n) 58) b, moved out 0 (piece opening 32) a) in
+          record {
+            count = whole.place ∙ rw (le-leb 256 (length out) room, zero-add (length (sentence why line spot)));
+            bytes = whole.bytes ∙ sets-eq (sentence why line spot) out 0 k ∙ rw (le-leb 256 (length out) room, zero-add (length (sentence why line spot)));
+          }

@@ -1,7 +1,7 @@
 -- What `locate` answers is the site of the text. A slot is named only past the tests of sizes and of repeated entries, and then test 3 has passed too: entries of different qubits, all below the
 -- largest + 1, are no more than that (pigeonholes). So the first slot at fault is what decides the verdict. A slot's fault is 4, 5, 6 or 9, so entries that are refused before the slots are
 -- looked at, by 1, 3 or 7, are refused for no slot.
-use Prim.Native.Nat.{ℕ, zero, suc, ◌+◌, ◌*◌, ◌/◌, ◌<◌, ◌≤◌, min}
+use Prim.Native.Nat.{ℕ, suc, ◌+◌, ◌*◌, ◌/◌, ◌<◌, ◌≤◌, min}
 use native.Mathlib.Omega.{arith}
 use mathlib.Core.Path.{◌≡◌, refl, sym, ap, ◌∙◌}
 use mathlib.Core.Logic.{◌⊎◌, inl, inr}

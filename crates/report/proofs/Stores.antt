@@ -17,11 +17,11 @@ sets_more d i (v ∷ a) b = rw (add-suc i (length a), ← (suc-add i (length a))
 -- a run at a place that follows one
 pub join : (d : List ℕ) {e f : List ℕ} {j k : ℕ} (i : ℕ) (a b : List ℕ)
     → j ≡ i + length a → e ≡ sets d i a → k ≡ j + length b → f ≡ sets e j b
-    → (k ≡ i + length (a ++ b)) × (f ≡ sets d i (a ++ b))
-join d {e} {f} {j} {k} i a b p q r s = (
-  r ∙ ap (λ (n : ℕ). n + length b) p ∙ omega (arith, length-append a b),
-  s ∙ ap (λ (l : List ℕ). sets l j b) q ∙ ap (λ (n : ℕ). sets (sets d i a) n b) p ∙ sets_more d i a b,
-)
+    → record { place : k ≡ i + length (a ++ b); bytes : f ≡ sets d i (a ++ b) }
+join d {e} {f} {j} {k} i a b p q r s = record {
+  place = r ∙ ap (λ (n : ℕ). n + length b) p ∙ omega (arith, length-append a b);
+  bytes = s ∙ ap (λ (l : List ℕ). sets l j b) q ∙ ap (λ (n : ℕ). sets (sets d i a) n b) p ∙ sets_more d i a b;
+}
 
 -- ---- loops
 
@@ -48,5 +48,5 @@ columns_next d at j f {v} p q =
 
 -- a run that has come to its end, and the byte after it
 pub ending : (d : List ℕ) {e : List ℕ} (at i : ℕ) (w : List ℕ) (v : ℕ) → i ≡ length w → e ≡ sets d at w
-    → (at + i + 1 ≡ at + length (w ++ (v ∷ []))) × (set e (at + i) v ≡ sets d at (w ++ (v ∷ [])))
+    → record { place : at + i + 1 ≡ at + length (w ++ (v ∷ [])); bytes : set e (at + i) v ≡ sets d at (w ++ (v ∷ [])) }
 ending d at i w v h p = join d at w (v ∷ []) (ap (λ (k : ℕ). at + k) h) p refl refl

@@ -42,10 +42,11 @@ vacuum_short_lem q v = omega (arith, length_two vacuum (bits q v), length_column
 pub front_stored : (line out : List ℕ) {r : ℕ} {e : List ℕ} → length line ≤ length out → Leaves line out r e → Stored out 0 line r e
 unfolding wrote written
 front_stored line out h s =
-    let k : 0 + length line ≤ length out = omega arith in (
-      s.0 ∙ rw (le-leb (length line) (length out) h, zero-add (length line)),
-      s.1 ∙ rw (le-leb (length line) (length out) h) (sym (sets-eq line out 0 k ∙ rw (zero-add (length line)))),
-    )
+    let k : 0 + length line ≤ length out = omega arith in
+    record {
+      place = s.count ∙ rw (le-leb (length line) (length out) h, zero-add (length line));
+      bytes = s.bytes ∙ rw (le-leb (length line) (length out) h) (sym (sets-eq line out 0 k ∙ rw (zero-add (length line))));
+    }
 
 -- a report is its lines, one after the other
 pub report_lines : (n q : ℕ) (row : ℕ → Row) (v : ℕ) → (header_line n q ++ row_lines q row (2 * n)) ++ vacuum_line q v ≡ report n q row v
@@ -53,15 +54,17 @@ unfolding report
 report_lines n q row v = append_assoc (header_line n q) (row_lines q row (2 * n)) (vacuum_line q v)
 
 -- a text at the front, where the test for it has passed
-front_if : (text out : List ℕ) (b : Bool) {r : ℕ} {e : List ℕ} → b ≡ true → length text ≤ length out → Stored out 0 text r e → (r ≡ cond b (length text) 0) × (e ≡ cond b (text ++ drop (length text) out) out)
+front_if : (text out : List ℕ) (b : Bool) {r : ℕ} {e : List ℕ} → b ≡ true → length text ≤ length out → Stored out 0 text r e
+    → record { count : r ≡ cond b (length text) 0; bytes : e ≡ cond b (text ++ drop (length text) out) out }
 front_if text out b h l s =
     let k : 0 + length text ≤ length out = omega arith in
-    (s.0 ∙ rw (h, zero-add (length text)), s.1 ∙ sets-eq text out 0 k ∙ rw (h, zero-add (length text)))
+    record { count = s.place ∙ rw (h, zero-add (length text)); bytes = s.bytes ∙ sets-eq text out 0 k ∙ rw (h, zero-add (length text)) }
 
 -- nothing is written where it has not
-pub not_roomy : (n q : ℕ) (row : ℕ → Row) (v : ℕ) (out : List ℕ) → roomy n q (length out) ≡ false → (0 ≡ report_length n q row v out) × (out ≡ reported n q row v out)
+pub not_roomy : (n q : ℕ) (row : ℕ → Row) (v : ℕ) (out : List ℕ) → roomy n q (length out) ≡ false
+    → record { count : 0 ≡ report_length n q row v out; bytes : out ≡ reported n q row v out }
 unfolding report_length reported
-not_roomy n q row v out h = (rw h, rw h)
+not_roomy n q row v out h = record { count = rw h; bytes = rw h }
 
 module _ (out : List ℕ) (n q : ℕ) (h : roomy n q (length out) ≡ true) {a : ℕ} {d : List ℕ} (s : Leaves (header_line n q) out a d) where
   header_fits : length (header_line n q) ≤ length out
@@ -80,7 +83,7 @@ module _ (out : List ℕ) (n q : ℕ) (h : roomy n q (length out) ≡ true) {a :
       let r = roomy_is n q (length out) h in
       let l = header_short n q r.modes r.qubits in
       let m : (2 * n + 2) * (q + 64) ≡ 2 * n * (q + 64) + 2 * (q + 64) = omega arith in
-      omega (arith, r.lines, header_stored.0, ap length header_stored.1 ∙ length-sets out 0 (header_line n q))
+      omega (arith, r.lines, header_stored.place, ap length header_stored.bytes ∙ length-sets out 0 (header_line n q))
 
   module _ (row : ℕ → Row) (v : ℕ) {b : ℕ} {e : List ℕ} (m : b ≤ a + 2 * n * (q + 64)) (t : Stored d a (row_lines q row (2 * n)) b e) where
     -- and the vacuum after the rows
@@ -93,23 +96,24 @@ module _ (out : List ℕ) (n q : ℕ) (h : roomy n q (length out) ≡ true) {a :
           arith,
           r.lines,
           vacuum_short_lem q v,
-          header_stored.0,
-          ap length header_stored.1 ∙ length-sets out 0 (header_line n q),
-          ap length t.1 ∙ length-sets d a (row_lines q row (2 * n)),
+          header_stored.place,
+          ap length header_stored.bytes ∙ length-sets out 0 (header_line n q),
+          ap length t.bytes ∙ length-sets d a (row_lines q row (2 * n)),
         )
 
-    pub whole_stored : {r : ℕ} {f : List ℕ} → Stored e b (vacuum_line q v) r f → (r ≡ report_length n q row v out) × (f ≡ reported n q row v out)
+    pub whole_stored : {r : ℕ} {f : List ℕ} → Stored e b (vacuum_line q v) r f
+        → record { count : r ≡ report_length n q row v out; bytes : f ≡ reported n q row v out }
     unfolding report_length reported
     whole_stored {r} {f} u =
-        let i = join out 0 (header_line n q) (row_lines q row (2 * n)) header_stored.0 header_stored.1 t.0 t.1 in
-        let j = join out 0 (header_line n q ++ row_lines q row (2 * n)) (vacuum_line q v) i.0 i.1 u.0 u.1 in
+        let i = join out 0 (header_line n q) (row_lines q row (2 * n)) header_stored.place header_stored.bytes t.place t.bytes in
+        let j = join out 0 (header_line n q ++ row_lines q row (2 * n)) (vacuum_line q v) i.place i.bytes u.place u.bytes in
         let k : Stored out 0 (report n q row v) r f = stored_same out 0 r f (report_lines n q row v) j in
         front_if (report n q row v) out (roomy n q (length out)) h
         (omega (
           arith,
-          k.0,
-          u.0,
+          k.place,
+          u.place,
           vacuum_fits,
-          ap length header_stored.1 ∙ length-sets out 0 (header_line n q),
-          ap length t.1 ∙ length-sets d a (row_lines q row (2 * n)),
+          ap length header_stored.bytes ∙ length-sets out 0 (header_line n q),
+          ap length t.bytes ∙ length-sets d a (row_lines q row (2 * n)),
         )) k

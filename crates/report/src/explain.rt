@@ -64,6 +64,7 @@ fn put_place(out: &mut [u8], at: usize, line: usize, spot: Spot) -> usize
 }
 
 // What the refusal means, and the byte that ends it.
+#[tactic(auto, unfolding(crate::specs::Explain::phrase))]
 fn put_phrase(out: &mut [u8], at: usize, why: Refusal, end: u8) -> usize
     requires { at + 64 ≤ length out.old }
     ensures place { result ≡ at + length (piece (phrase why) end) }
