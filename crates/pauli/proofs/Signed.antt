@@ -1,12 +1,12 @@
 -- Signed differences and their remainder by 4, which never comes out negative. By cases on the sign, and for the few remainders on each.
-use Prim.Native.Nat.{ℕ, zero, suc, ◌+◌, ◌-◌, ◌%◌, ◌≤◌, ◌<◌}
+use Prim.Native.Nat.{ℕ, zero, suc, ◌+◌, ◌-◌, ◌/◌, ◌%◌, ◌≤◌, ◌<◌}
 use native.Mathlib.Omega.{arith}
 use mathlib.Core.Path.{◌≡◌, refl}
 use mathlib.Core.Bool.{Bool, true, false, cond}
 use borrow.Author.Tests.{ltb-true, ltb-false}
 use lib.Dec.{ltb}
 use lib.IntN.{ℤ, pos, negsuc, neg_ℤ, sub_ℕ, ◌+ℤ◌, ◌-ℤ◌}
-use lib.Signed.{mag, rem_z}
+use lib.Signed.{mag, quot_z, rem_z}
 use Rattle.pauli.specs.Phases.{mod_four, letter_power}
 
 -- ---- the difference of two numbers
@@ -23,6 +23,14 @@ mag_difference a zero = omega arith
 mag_difference a (suc b) = mag_sub a (suc b)
 
 -- ---- remainders
+
+pub mag_quotient : (z : ℤ) → mag (quot_z z (pos 4)) ≤ mag z
+mag_quotient (pos a) = omega arith
+mag_quotient (negsuc a) = go (suc a / 4) (omega arith)
+  where
+    go : (q : ℕ) → q ≤ a → mag (neg_ℤ (pos q)) ≤ a
+    go zero h = omega arith
+    go (suc q) h = omega arith
 
 pub mag_remainder : (z : ℤ) → mag (rem_z z (pos 4)) < 4
 mag_remainder (pos a) = omega arith

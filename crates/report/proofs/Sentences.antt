@@ -57,6 +57,13 @@ phrase_short OddModes = leb-true _ _ refl
 
 -- ---- pieces
 
+-- the words of a case
+pub phrase_stored : (out : List ℕ) (at end : ℕ) {w v : Refusal} {r : ℕ} {e : List ℕ} → w ≡ v → Stored out at (piece (phrase v) end) r e → Stored out at (piece (phrase w) end) r e
+phrase_stored out at end {w} {v} {r} {e} h s = stored_same out at r e (ap (λ (v : Refusal). piece (phrase v) end) (sym h)) s
+
+pub spot_stored : (out : List ℕ) (at : ℕ) {w v : Spot} {r : ℕ} {e : List ℕ} → w ≡ v → Stored out at (piece (spot_words v) 10) r e → Stored out at (piece (spot_words w) 10) r e
+spot_stored out at {w} {v} {r} {e} h s = stored_same out at r e (ap (λ (v : Spot). piece (spot_words v) 10) (sym h)) s
+
 -- one piece after another
 pub after_piece : (out : List ℕ) (at : ℕ) (a b : List ℕ) {r s : ℕ} {d e : List ℕ} → Stored out at a r d → Stored d r b s e → Stored out at (a ++ b) s e
 after_piece out at a b p q = join out at a b p.place p.bytes q.place q.bytes
