@@ -21,7 +21,8 @@ found_x z h k = rw (h, k)
 found_p : {p : Bool} (r : Bool) → p ≡ true → (p || r) ≡ true
 found_p r h = rw h
 
-whole : (c : Else-modes-gt256) → let a = c.args in many_or_bad a.modes a.qubits a.w a.x.now a.z.now a.phases.now ≡ ((let a = c.args in some_below (2 * a.modes) (λ k. ltb 3 (get_or a.phases.now k 0))) || ((let a = c.args in strays_in a.w a.x.now (2 * a.modes) a.qubits) || (let a = c.args in strays_in a.w a.z.now (2 * a.modes) a.qubits)))
+whole : (c : Else-modes-gt256) → let a = c.args in many_or_bad a.modes a.qubits a.w a.x.now a.z.now a.phases.now
+    ≡ (some_below (2 * a.modes) (λ k. ltb 3 (get_or a.phases.now k 0)) || (strays_in a.w a.x.now (2 * a.modes) a.qubits || strays_in a.w a.z.now (2 * a.modes) a.qubits))
 whole c = let a = c.args in few_bad _ _ _ _ _ _ c.if-modes-gt256.false ∙ bad_parts a.modes a.qubits a.w a.x.now a.z.now a.phases.now
 
 pub returns-then-modes-gt256 : goal.returns-then-modes-gt256
@@ -29,10 +30,18 @@ unfolding many_or_bad
 returns-then-modes-gt256 c = simp (lt-ltb _ _ c.if-modes-gt256.true)
 
 pub returns-then-bad_phase : goal.returns-then-bad_phase
-returns-then-bad_phase c = sym (whole (goal.at.returns-then-bad_phase c).Else-modes-gt256 ∙ found_p ((let a = c.args in strays_in a.w a.x.now (2 * a.modes) a.qubits) || (let a = c.args in strays_in a.w a.z.now (2 * a.modes) a.qubits)) (sym c.bad_phase.ensures ∙ c.if-bad_phase.true))
+returns-then-bad_phase c =
+    let a = c.args in
+    let rest = strays_in a.w a.x.now (2 * a.modes) a.qubits || strays_in a.w a.z.now (2 * a.modes) a.qubits in
+    sym (whole (goal.at.returns-then-bad_phase c).Else-modes-gt256 ∙ found_p rest (sym c.bad_phase.ensures ∙ c.if-bad_phase.true))
 
 pub returns-then-stray_block : goal.returns-then-stray_block
-returns-then-stray_block c = sym (whole (goal.at.returns-then-stray_block c).Else-modes-gt256 ∙ found_x (let a = c.args in strays_in a.w a.z.now (2 * a.modes) a.qubits) (sym c.bad_phase.ensures ∙ c.if-bad_phase.false) (sym c.stray_block.ensures ∙ c.if-stray_block.true))
+returns-then-stray_block c =
+    let a = c.args in
+    let rest = strays_in a.w a.z.now (2 * a.modes) a.qubits in
+    sym (whole (goal.at.returns-then-stray_block c).Else-modes-gt256
+    ∙ found_x rest (sym c.bad_phase.ensures ∙ c.if-bad_phase.false) (sym c.stray_block.ensures ∙ c.if-stray_block.true))
 
 pub returns : goal.returns
-returns c = c.stray_block-2.ensures ∙ sym (whole (goal.at.returns c).Else-modes-gt256 ∙ tested (sym c.bad_phase.ensures ∙ c.if-bad_phase.false) (sym c.stray_block.ensures ∙ c.if-stray_block.false))
+returns c = c.stray_block-2.ensures ∙ sym (whole (goal.at.returns c).Else-modes-gt256
+    ∙ tested (sym c.bad_phase.ensures ∙ c.if-bad_phase.false) (sym c.stray_block.ensures ∙ c.if-stray_block.false))

@@ -25,23 +25,30 @@ in_range c = in_size _ _ (size_passes c)
 
 few : (c : After-words_for-w) → c.words_for-w.result ≤ 4
 few c =
-    let size_passes : bad_size c.args.modes c.args.qubits ≡ false = sym c.bad_size.ensures ∙ c.if-bad_size.false in
-    let in_range : InSize c.args.modes c.args.qubits = in_size _ _ size_passes in
-    omega (arith, few_words c.args.qubits in_range.qubits_high, c.words_for-w.ensures)
+    let a = c.args in
+    let in_range : InSize a.modes a.qubits = in_size _ _ (sym c.bad_size.ensures ∙ c.if-bad_size.false) in
+    omega (arith, few_words a.qubits in_range.qubits_high, c.words_for-w.ensures)
 
-fits : (c : Else-short_three) → Fits c.args.modes c.words_for-w.result c.args.x.now c.args.z.now c.args.phases.now × Hold (let a = c.args in (c.words_for-w.result of length a.vacuum.now) ∷ (c.words_for-w.result of length a.string.now) ∷ (c.words_for-lw.result of length a.out.now) ∷ [])
+fits : (c : Else-short_three) → Fits c.args.modes c.words_for-w.result c.args.x.now c.args.z.now c.args.phases.now × Hold
+    (let a = c.args in (c.words_for-w.result of length a.vacuum.now) ∷ (c.words_for-w.result of length a.string.now)
+    ∷ (c.words_for-lw.result of length a.out.now) ∷ [])
 fits c =
-    let size_passes : bad_size c.args.modes c.args.qubits ≡ false = sym c.bad_size.ensures ∙ c.if-bad_size.false in
-    let in_range : InSize c.args.modes c.args.qubits = in_size _ _ size_passes in
-    let few : c.words_for-w.result ≤ 4 = omega (arith, few_words c.args.qubits in_range.qubits_high, c.words_for-w.ensures) in
-    held_in _ _ _ _ _ (let a = c.args in (c.words_for-w.result of length a.vacuum.now) ∷ (c.words_for-w.result of length a.string.now) ∷ (c.words_for-lw.result of length a.out.now) ∷ []) in_range.modes_high few (sym c.short_three.ensures ∙ c.if-short_three.false)
+    let a = c.args in
+    let in_range : InSize a.modes a.qubits = in_size _ _ (sym c.bad_size.ensures ∙ c.if-bad_size.false) in
+    let few : c.words_for-w.result ≤ 4 = omega (arith, few_words a.qubits in_range.qubits_high, c.words_for-w.ensures) in
+    held_in _ _ _ _ _ ((c.words_for-w.result of length a.vacuum.now) ∷ (c.words_for-w.result of length a.string.now)
+    ∷ (c.words_for-lw.result of length a.out.now) ∷ []) in_range.modes_high few (sym c.short_three.ensures ∙ c.if-short_three.false)
 
-lengths_pass : (c : Else-short_three) → decode_short (let a = c.args in given a.modes a.qubits a.x.now a.z.now a.phases.now) c.args.vacuum.now c.args.string.now c.args.out.now ≡ false
+lengths_pass : (c : Else-short_three) → decode_short
+    (let a = c.args in given a.modes a.qubits a.x.now a.z.now a.phases.now) c.args.vacuum.now c.args.string.now c.args.out.now ≡ false
 unfolding decode_short
 lengths_pass c = rw (c.words_for-w.ensures, c.words_for-lw.ensures) at (sym c.short_three.ensures ∙ c.if-short_three.false)
 
 pub returns-then-bad_size : goal.returns-then-bad_size
-returns-then-bad_size c = let a = c.args in decode_size (let a = c.args in given a.modes a.qubits a.x.now a.z.now a.phases.now) a.vacuum.now a.string.now a.out.now (sym c.bad_size.ensures ∙ c.if-bad_size.true)
+returns-then-bad_size c =
+    let a = c.args in
+    let s = given a.modes a.qubits a.x.now a.z.now a.phases.now in
+    decode_size s a.vacuum.now a.string.now a.out.now (sym c.bad_size.ensures ∙ c.if-bad_size.true)
 
 pub short_three-requires : goal.short_three-requires
 short_three-requires c = ((in_range (goal.at.short_three-requires c).Else-bad_size).modes_high, few (goal.at.short_three-requires c).After-words_for-w)
@@ -50,7 +57,8 @@ pub returns-then-short_three : goal.returns-then-short_three
 unfolding decode_short
 returns-then-short_three c =
     let a = c.args in
-    decode_short_lem (let a = c.args in given a.modes a.qubits a.x.now a.z.now a.phases.now) a.vacuum.now a.string.now a.out.now (size_passes (goal.at.returns-then-short_three c).Else-bad_size)
+    let s = given a.modes a.qubits a.x.now a.z.now a.phases.now in
+    decode_short_lem s a.vacuum.now a.string.now a.out.now (size_passes (goal.at.returns-then-short_three c).Else-bad_size)
     (rw (c.words_for-w.ensures, c.words_for-lw.ensures) at (sym c.short_three.ensures ∙ c.if-short_three.true))
 
 pub slice_bounds-v-end : goal.slice_bounds-v-end
@@ -66,15 +74,20 @@ pub returns-then-bad_two : goal.returns-then-bad_two
 unfolding decode_bad
 returns-then-bad_two c =
     let a = c.args in
-    decode_value (let a = c.args in given a.modes a.qubits a.x.now a.z.now a.phases.now) a.vacuum.now a.string.now a.out.now (size_passes (goal.at.returns-then-bad_two c).Else-bad_size) (lengths_pass (goal.at.returns-then-bad_two c).Else-short_three)
+    let s = given a.modes a.qubits a.x.now a.z.now a.phases.now in
+    decode_value s a.vacuum.now a.string.now a.out.now (size_passes (goal.at.returns-then-bad_two c).Else-bad_size)
+    (lengths_pass (goal.at.returns-then-bad_two c).Else-short_three)
     (rw c.words_for-w.ensures at (sym c.bad_two.ensures ∙ c.if-bad_two.true))
 
 pub decode_into-requires : goal.decode_into-requires
 decode_into-requires c =
-    let held : Held c.args.modes c.words_for-w.result c.args.x.now c.args.z.now c.args.phases.now =
     let a = c.args in
+    let held : Held a.modes c.words_for-w.result a.x.now a.z.now a.phases.now =
     let good = or_left _ _ (sym c.bad_two.ensures ∙ c.if-bad_two.false) in
-    record { fits = (fits (goal.at.decode_into-requires c).Else-short_three).0; small = phase_small a.modes a.qubits c.words_for-w.result a.x.now a.z.now a.phases.now good }
+    record {
+      fits = (fits (goal.at.decode_into-requires c).Else-short_three).0;
+      small = phase_small a.modes a.qubits c.words_for-w.result a.x.now a.z.now a.phases.now good;
+    }
     in
     let f = fits (goal.at.decode_into-requires c).Else-short_three in
     (held, length-take-le _ _ f.1.0, length-take-le _ _ f.1.1.0, omega (arith, f.1.1.1.0, c.words_for-lw.ensures))
@@ -82,15 +95,19 @@ decode_into-requires c =
 pub returns-then-decode_into : goal.returns-then-decode_into
 unfolding decoded decode_bad
 returns-then-decode_into c =
-    let values_pass : decode_bad (let a = c.args in given a.modes a.qubits a.x.now a.z.now a.phases.now) c.args.vacuum.now c.args.string.now ≡ false = rw c.words_for-w.ensures at (sym c.bad_two.ensures ∙ c.if-bad_two.false) in
     let a = c.args in
+    let s = given a.modes a.qubits a.x.now a.z.now a.phases.now in
+    let values_pass : decode_bad s a.vacuum.now a.string.now ≡ false = rw c.words_for-w.ensures at (sym c.bad_two.ensures ∙ c.if-bad_two.false) in
     let r = rw c.words_for-w.ensures at c.decode_into.ensures in
-    decode_found (let a = c.args in given a.modes a.qubits a.x.now a.z.now a.phases.now) a.vacuum.now a.string.now a.out.now (size_passes (goal.at.returns-then-decode_into c).Else-bad_size) (lengths_pass (goal.at.returns-then-decode_into c).Else-short_three) values_pass _ r.1 (sym c.if-decode_into.true ∙ r.0)
+    decode_found s a.vacuum.now a.string.now a.out.now (size_passes (goal.at.returns-then-decode_into c).Else-bad_size)
+    (lengths_pass (goal.at.returns-then-decode_into c).Else-short_three) values_pass _ r.1 (sym c.if-decode_into.true ∙ r.0)
 
 pub returns : goal.returns
 unfolding decoded decode_bad
 returns c =
-    let values_pass : decode_bad (let a = c.args in given a.modes a.qubits a.x.now a.z.now a.phases.now) c.args.vacuum.now c.args.string.now ≡ false = rw c.words_for-w.ensures at (sym c.bad_two.ensures ∙ c.if-bad_two.false) in
     let a = c.args in
+    let s = given a.modes a.qubits a.x.now a.z.now a.phases.now in
+    let values_pass : decode_bad s a.vacuum.now a.string.now ≡ false = rw c.words_for-w.ensures at (sym c.bad_two.ensures ∙ c.if-bad_two.false) in
     let r = rw c.words_for-w.ensures at c.decode_into.ensures in
-    decode_foreign (let a = c.args in given a.modes a.qubits a.x.now a.z.now a.phases.now) a.vacuum.now a.string.now a.out.now (size_passes (goal.at.returns c).Else-bad_size) (lengths_pass (goal.at.returns c).Else-short_three) values_pass _ r.1 (sym c.if-decode_into.false ∙ r.0)
+    decode_foreign s a.vacuum.now a.string.now a.out.now (size_passes (goal.at.returns c).Else-bad_size)
+    (lengths_pass (goal.at.returns c).Else-short_three) values_pass _ r.1 (sym c.if-decode_into.false ∙ r.0)

@@ -25,18 +25,20 @@ in_range c = in_size _ _ (size_passes c)
 
 few : (c : After-words_for-w) → c.words_for-w.result ≤ 4
 few c =
-    let size_passes : bad_size c.args.modes c.args.qubits ≡ false = sym c.bad_size.ensures ∙ c.if-bad_size.false in
-    let in_range : InSize c.args.modes c.args.qubits = in_size _ _ size_passes in
-    omega (arith, few_words c.args.qubits in_range.qubits_high, c.words_for-w.ensures)
+    let a = c.args in
+    let in_range : InSize a.modes a.qubits = in_size _ _ (sym c.bad_size.ensures ∙ c.if-bad_size.false) in
+    omega (arith, few_words a.qubits in_range.qubits_high, c.words_for-w.ensures)
 
 need_small : (c : After-words_for-w) → c.args.modes * (c.words_for-w.result + 1) ≤ 1280
 need_small c =
-    let size_passes : bad_size c.args.modes c.args.qubits ≡ false = sym c.bad_size.ensures ∙ c.if-bad_size.false in
-    let in_range : InSize c.args.modes c.args.qubits = in_size _ _ size_passes in
+    let in_range : InSize c.args.modes c.args.qubits = in_size _ _ (sym c.bad_size.ensures ∙ c.if-bad_size.false) in
     let h : c.words_for-w.result + 1 ≤ 5 = omega (arith, few c) in mul-le-mul in_range.modes_high h
 
 pub returns-then-bad_size : goal.returns-then-bad_size
-returns-then-bad_size c = let a = c.args in solve_size (let a = c.args in given a.modes a.qubits a.x.now a.z.now a.phases.now) a.vacuum.now a.room.now (sym c.bad_size.ensures ∙ c.if-bad_size.true)
+returns-then-bad_size c =
+    let a = c.args in
+    let s = given a.modes a.qubits a.x.now a.z.now a.phases.now in
+    solve_size s a.vacuum.now a.room.now (sym c.bad_size.ensures ∙ c.if-bad_size.true)
 
 pub overflow_add-need : goal.overflow_add-need
 overflow_add-need c = record { fits = omega (arith, few (goal.at.overflow_add-need c).After-words_for-w) }
@@ -51,19 +53,27 @@ pub returns-then-short_two : goal.returns-then-short_two
 unfolding solve_short
 returns-then-short_two c =
     let a = c.args in
-    solve_short_lem (let a = c.args in given a.modes a.qubits a.x.now a.z.now a.phases.now) a.vacuum.now a.room.now (size_passes (goal.at.returns-then-short_two c).Else-bad_size) (rw c.words_for-w.ensures at (sym c.short_two.ensures ∙ c.if-short_two.true))
+    let s = given a.modes a.qubits a.x.now a.z.now a.phases.now in
+    solve_short_lem s a.vacuum.now a.room.now (size_passes (goal.at.returns-then-short_two c).Else-bad_size)
+    (rw c.words_for-w.ensures at (sym c.short_two.ensures ∙ c.if-short_two.true))
 
 pub solve_lent-answer-requires : goal.solve_lent-answer-requires
 solve_lent-answer-requires c =
-    let fits : Fits c.args.modes c.words_for-w.result c.args.x.now c.args.z.now c.args.phases.now × Hold (let a = c.args in (c.words_for-w.result of length a.vacuum.now) ∷ (a.modes * (c.words_for-w.result + 1) of length a.room.now) ∷ []) = held_in _ _ _ _ _ (let a = c.args in (c.words_for-w.result of length a.vacuum.now) ∷ (a.modes * (c.words_for-w.result + 1) of length a.room.now) ∷ []) (in_range (goal.at.solve_lent-answer-requires c).Else-bad_size).modes_high (few (goal.at.solve_lent-answer-requires c).After-words_for-w) (sym c.short_two.ensures ∙ c.if-short_two.false) in
-    let f = fits in (f.0, omega (arith, words_hold c.args.qubits, c.words_for-w.ensures), f.1.0, f.1.1.0)
+    let a = c.args in
+    let fits : Fits a.modes c.words_for-w.result a.x.now a.z.now a.phases.now × Hold
+    ((c.words_for-w.result of length a.vacuum.now) ∷ (a.modes * (c.words_for-w.result + 1) of length a.room.now) ∷ []) =
+    held_in _ _ _ _ _ ((c.words_for-w.result of length a.vacuum.now) ∷ (a.modes * (c.words_for-w.result + 1) of length a.room.now) ∷ [])
+    (in_range (goal.at.solve_lent-answer-requires c).Else-bad_size).modes_high (few (goal.at.solve_lent-answer-requires c).After-words_for-w)
+    (sym c.short_two.ensures ∙ c.if-short_two.false) in
+    let f = fits in (f.0, omega (arith, words_hold a.qubits, c.words_for-w.ensures), f.1.0, f.1.1.0)
 
 pub returns : goal.returns
 unfolding solve_short
 returns c =
-    let lengths_pass : solve_short (let a = c.args in given a.modes a.qubits a.x.now a.z.now a.phases.now) c.args.vacuum.now c.args.room.now ≡ false = rw c.words_for-w.ensures at (sym c.short_two.ensures ∙ c.if-short_two.false) in
     let a = c.args in
+    let s = given a.modes a.qubits a.x.now a.z.now a.phases.now in
+    let lengths_pass : solve_short s a.vacuum.now a.room.now ≡ false = rw c.words_for-w.ensures at (sym c.short_two.ensures ∙ c.if-short_two.false) in
     let w = c.words_for-w.ensures in
     let l = c.solve_lent-answer in
-    solve_task (let a = c.args in given a.modes a.qubits a.x.now a.z.now a.phases.now) a.vacuum.now a.room.now (size_passes (goal.at.returns c).Else-bad_size) lengths_pass l.result l.new.v l.new.room c.clear.new.s
+    solve_task s a.vacuum.now a.room.now (size_passes (goal.at.returns c).Else-bad_size) lengths_pass l.result l.new.v l.new.room c.clear.new.s
     (rw w at l.ensures) (rw w at c.clear.ensures)

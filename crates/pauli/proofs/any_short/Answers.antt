@@ -17,7 +17,19 @@ pub returns-then-d-need : goal.returns-then-d-need
 returns-then-d-need c = simp (le-ltb _ _ c.if-a-need.false, le-ltb _ _ c.if-b-need.false, le-ltb _ _ c.if-c-need.false, lt-ltb _ _ c.if-d-need.true)
 
 pub returns-then-e-need : goal.returns-then-e-need
-returns-then-e-need c = simp (le-ltb _ _ c.if-a-need.false, le-ltb _ _ c.if-b-need.false, le-ltb _ _ c.if-c-need.false, le-ltb _ _ c.if-d-need.false, lt-ltb _ _ c.if-e-need.true)
+returns-then-e-need c = simp (
+  le-ltb _ _ c.if-a-need.false,
+  le-ltb _ _ c.if-b-need.false,
+  le-ltb _ _ c.if-c-need.false,
+  le-ltb _ _ c.if-d-need.false,
+  lt-ltb _ _ c.if-e-need.true,
+)
 
 pub returns : goal.returns
-returns c = simp (le-ltb _ _ c.if-a-need.false, le-ltb _ _ c.if-b-need.false, le-ltb _ _ c.if-c-need.false, le-ltb _ _ c.if-d-need.false, le-ltb _ _ c.if-e-need.false) (sym (or_false _))
+returns c = simp (
+  le-ltb _ _ c.if-a-need.false,
+  le-ltb _ _ c.if-b-need.false,
+  le-ltb _ _ c.if-c-need.false,
+  le-ltb _ _ c.if-d-need.false,
+  le-ltb _ _ c.if-e-need.false,
+) (sym (or_false _))

@@ -10,4 +10,5 @@ use Rattle.pauli.proofs.letter_power.Goals as goal
 pub returns : goal.returns
 returns c =
     let a = c.args in
-    c.less.ensures ∙ letter_power_mod a.p.power (c.and_count_ones.result % 65536) (common (value a.x.now) (value a.z.now)) (omega (arith, c.and_count_ones.ensures))
+    c.less.ensures ∙ letter_power_mod a.p.power (c.and_count_ones.result % 65536) (common (value a.x.now) (value a.z.now))
+    (omega (arith, c.and_count_ones.ensures))

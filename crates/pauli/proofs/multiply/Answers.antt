@@ -24,11 +24,13 @@ unfolding too_short
 lengths_pass c = rw c.words_for-w.ensures at (sym c.any_short.ensures ∙ c.if-any_short.false)
 
 holds : (c : Else-any_short) → Hold (let a = c.args in
-    ((c.words_for-w.result) of length a.lx.now) ∷ ((c.words_for-w.result) of length a.lz.now) ∷ ((c.words_for-w.result) of length a.rx.now) ∷ ((c.words_for-w.result) of length a.rz.now)
+    ((c.words_for-w.result) of length a.lx.now) ∷ ((c.words_for-w.result) of length a.lz.now) ∷ ((c.words_for-w.result) of length a.rx.now)
+    ∷ ((c.words_for-w.result) of length a.rz.now)
     ∷ ((c.words_for-w.result) of length a.ox.now) ∷ ((c.words_for-w.result) of length a.oz.now) ∷ [])
 holds c =
     hold (let a = c.args in
-    ((c.words_for-w.result) of length a.lx.now) ∷ ((c.words_for-w.result) of length a.lz.now) ∷ ((c.words_for-w.result) of length a.rx.now) ∷ ((c.words_for-w.result) of length a.rz.now)
+    ((c.words_for-w.result) of length a.lx.now) ∷ ((c.words_for-w.result) of length a.lz.now) ∷ ((c.words_for-w.result) of length a.rx.now)
+    ∷ ((c.words_for-w.result) of length a.rz.now)
     ∷ ((c.words_for-w.result) of length a.ox.now) ∷ ((c.words_for-w.result) of length a.oz.now) ∷ []) (sym c.any_short.ensures ∙ c.if-any_short.false)
 
 rows_pass : (c : Else-bad_factor) → value_test (let a = c.args in
@@ -62,7 +64,9 @@ slice_bounds-rz-end c = sym (length-take-le _ _ (holds (goal.at.slice_bounds-rz-
 pub returns-then-bad_factor : goal.returns-then-bad_factor
 returns-then-bad_factor c =
     by_value (let a = c.args in
-    given a.columns a.left.power a.lx.now a.lz.now a.right.power a.rx.now a.rz.now a.ox.now a.oz.now) (columns_pass (goal.at.returns-then-bad_factor c).Else-any_short) (lengths_pass (goal.at.returns-then-bad_factor c).Else-any_short) (rw c.words_for-w.ensures at (sym c.bad_factor.ensures ∙ c.if-bad_factor.true))
+    given a.columns a.left.power a.lx.now a.lz.now a.right.power a.rx.now a.rz.now a.ox.now a.oz.now)
+    (columns_pass (goal.at.returns-then-bad_factor c).Else-any_short) (lengths_pass (goal.at.returns-then-bad_factor c).Else-any_short)
+    (rw c.words_for-w.ensures at (sym c.bad_factor.ensures ∙ c.if-bad_factor.true))
 
 pub slice_bounds-multiply_words-end : goal.slice_bounds-multiply_words-end
 slice_bounds-multiply_words-end c = (holds (goal.at.slice_bounds-multiply_words-end c).Else-any_short).1.1.1.1.0
@@ -91,7 +95,8 @@ returns c =
     let h = holds (goal.at.returns c).Else-any_short in
     let i = (let a = c.args in
     given a.columns a.left.power a.lx.now a.lz.now a.right.power a.rx.now a.rz.now a.ox.now a.oz.now) in
-    by_none i (columns_pass (goal.at.returns c).Else-any_short) (lengths_pass (goal.at.returns c).Else-any_short) (rows_pass (goal.at.returns c).Else-bad_factor) m.result.phase m.result.commute _ _
+    by_none i (columns_pass (goal.at.returns c).Else-any_short) (lengths_pass (goal.at.returns c).Else-any_short)
+    (rows_pass (goal.at.returns c).Else-bad_factor) m.result.phase m.result.commute _ _
     (m.ensures.met.phase ∙ ap (λ (n : ℕ). (times (row_of (first_words n i.left)) (row_of (first_words n i.right))).p) same)
     (m.ensures.met.commute ∙ ap (λ (n : ℕ). commuting (row_of (first_words n i.left)) (row_of (first_words n i.right))) same)
     (ap (λ (l : List ℕ). l ++ drop (c.words_for-w.result) a.ox.now) m.ensures.x_part

@@ -24,9 +24,10 @@ sum_back c = ap (λ (z : ℤ). to_z w32 (of_z w32 z)) (read_back c) ∙ to_z-of_
 -- what the cast reads
 read : (c : Start) → to_z w32 (of_z w32 (rem_z (to_z w32 (of_z w32 (to_z w32 (of_z w32 c.args.r) +ℤ pos 4))) (pos 4))) ≡ pos (mod_four c.args.r)
 read c =
+    let a = c.args in
     ap (λ (z : ℤ). to_z w32 (of_z w32 (rem_z z (pos 4)))) (sum_back c)
-    ∙ ap (λ (z : ℤ). to_z w32 (of_z w32 z)) (raised c.args.r c.requires)
-    ∙ to_z_pos w32 (mod_four c.args.r) (omega (arith, mod_four_lt c.args.r))
+    ∙ ap (λ (z : ℤ). to_z w32 (of_z w32 z)) (raised a.r c.requires)
+    ∙ to_z_pos w32 (mod_four a.r) (omega (arith, mod_four_lt a.r))
 
 pub overflow_add-result : goal.overflow_add-result
 overflow_add-result c = subst (λ (z : ℤ). SFits w32 z) (sym (read_back (goal.at.overflow_add-result c).Start)) (sum_fits (goal.at.overflow_add-result c).Start)

@@ -17,4 +17,5 @@ remainder_fits : (c : Start) → SFits w32 (rem_z c.args.d (pos 4))
 remainder_fits c = record { sfits = omega (arith, mag_remainder c.args.d) }
 
 pub returns : goal.returns
-returns c = ap (λ (z : ℤ). to_z w32 (of_z w32 (rem_z z (pos 4)))) (read_back (goal.at.returns c).Start) ∙ to_z-of_z w32 _ (remainder_fits (goal.at.returns c).Start)
+returns c = ap (λ (z : ℤ). to_z w32 (of_z w32 (rem_z z (pos 4)))) (read_back (goal.at.returns c).Start)
+    ∙ to_z-of_z w32 _ (remainder_fits (goal.at.returns c).Start)

@@ -22,25 +22,45 @@ commute-requires c = let l = c.loop-k in let o = c.search in (c.requires, omega 
 
 pub loop-k-preserved : goal.loop-k-preserved
 loop-k-preserved c =
+    let a = c.args in
+    let r = row_at a.w a.x.now a.z.now a.phases.now in
+    let meet = λ (g : ℕ) (h : ℕ). eqb (clash (r g) (r h)) 0 in
     let l = c.loop-k in
-    let o = c.search in
-    (l.invariant.0, omega arith, omega arith, one_more (let a = c.args in λ (g : ℕ) (h : ℕ). eqb (clash (row_at a.w a.x.now a.z.now a.phases.now g) (row_at a.w a.x.now a.z.now a.phases.now h)) 0) o.j l.k l.invariant.3 (sym c.commute.ensures ∙ c.if-commute.false))
+    let o = c.search in (
+      l.invariant.0,
+      omega arith,
+      omega arith,
+      one_more meet o.j l.k l.invariant.3 (sym c.commute.ensures ∙ c.if-commute.false),
+    )
 
 pub search-preserved : goal.search-preserved
 search-preserved c =
+    let a = c.args in
+    let r = row_at a.w a.x.now a.z.now a.phases.now in
+    let meet = λ (g : ℕ) (h : ℕ). eqb (clash (r g) (r h)) 0 in
     let l = c.loop-k in
-    let o = c.search in
-    (l.invariant.0, omega arith, row_more (let a = c.args in λ (g : ℕ) (h : ℕ). eqb (clash (row_at a.w a.x.now a.z.now a.phases.now g) (row_at a.w a.x.now a.z.now a.phases.now h)) 0) (2 * c.args.modes) o.j l.k o.invariant.2 l.invariant.3 c.loop-k-test.false)
+    let o = c.search in (
+      l.invariant.0,
+      omega arith,
+      row_more meet (2 * a.modes) o.j l.k o.invariant.2 l.invariant.3 c.loop-k-test.false,
+    )
 
 pub returns-after-search : goal.returns-after-search
 unfolding commuting_pair
 returns-after-search c =
+    let a = c.args in
+    let r = row_at a.w a.x.now a.z.now a.phases.now in
+    let meet = λ (g : ℕ) (h : ℕ). eqb (clash (r g) (r h)) 0 in
     let o = c.search in
-    ap pair_of o.invariant.0 ∙ sym (pair_none (2 * c.args.modes) (let a = c.args in λ (g : ℕ) (h : ℕ). eqb (clash (row_at a.w a.x.now a.z.now a.phases.now g) (row_at a.w a.x.now a.z.now a.phases.now h)) 0) (λ i d h l. o.invariant.2 i d (omega arith) h l))
+    ap pair_of o.invariant.0 ∙ sym (pair_none (2 * a.modes) meet (λ i d h l. o.invariant.2 i d (omega arith) h l))
 
 pub returns-then-commute : goal.returns-then-commute
 unfolding commuting_pair
 returns-then-commute c =
+    let a = c.args in
+    let r = row_at a.w a.x.now a.z.now a.phases.now in
+    let meet = λ (g : ℕ) (h : ℕ). eqb (clash (r g) (r h)) 0 in
     let l = c.loop-k in
     let o = c.search in
-    sym (pair_of_lem (2 * c.args.modes) (let a = c.args in λ (g : ℕ) (h : ℕ). eqb (clash (row_at a.w a.x.now a.z.now a.phases.now g) (row_at a.w a.x.now a.z.now a.phases.now h)) 0) o.j l.k (omega arith) (omega arith) (sym c.commute.ensures ∙ c.if-commute.true) o.invariant.2 (λ d h m. l.invariant.3 d h m))
+    sym (pair_of_lem (2 * a.modes) meet o.j l.k (omega arith) (omega arith)
+    (sym c.commute.ensures ∙ c.if-commute.true) o.invariant.2 (λ d h m. l.invariant.3 d h m))

@@ -13,13 +13,19 @@ inside : (r modes w room : ℕ) → r < 2 * modes → 2 * modes * (w + w) ≤ ro
 inside r modes w room h k = row_within r (2 * modes) (w + w) room h k
 
 pub overflow_mul-a : goal.overflow_mul-a
-overflow_mul-a c = record { fits = omega (arith, inside c.args.r c.args.modes c.args.w _ c.requires.1 c.requires.2) }
+overflow_mul-a c =
+    let a = c.args in
+    record { fits = omega (arith, inside a.r a.modes a.w _ c.requires.1 c.requires.2) }
 
 pub overflow_add-e : goal.overflow_add-e
-overflow_add-e c = record { fits = omega (arith, inside c.args.r c.args.modes c.args.w _ c.requires.1 c.requires.2) }
+overflow_add-e c =
+    let a = c.args in
+    record { fits = omega (arith, inside a.r a.modes a.w _ c.requires.1 c.requires.2) }
 
 pub offset_bounds-room-a : goal.offset_bounds-room-a
-offset_bounds-room-a c = record { fits = omega (arith, inside c.args.r c.args.modes c.args.w _ c.requires.1 c.requires.2) }
+offset_bounds-room-a c =
+    let a = c.args in
+    record { fits = omega (arith, inside a.r a.modes a.w _ c.requires.1 c.requires.2) }
 
 pub row-requires : goal.row-requires
 row-requires c = x_row c.requires.0 c.args.r c.requires.1
@@ -33,7 +39,8 @@ join-requires c =
     let n : a.r * (a.w + a.w) + (a.w + a.w) - a.r * (a.w + a.w) ≡ a.w + a.w = omega arith in (
       ap length c.row.ensures ∙ length_term a.w a.x.now a.r (x_row c.requires.0 a.r c.requires.1),
       ap length c.row-2.ensures ∙ length_term a.w a.z.now a.r (z_row c.requires.0 a.r c.requires.1),
-      ap (λ (k : ℕ). length (take k (drop (a.r * (a.w + a.w)) a.room.now))) n ∙ length_term (a.w + a.w) a.room.now a.r (inside c.args.r c.args.modes c.args.w _ c.requires.1 c.requires.2),
+      ap (λ (k : ℕ). length (take k (drop (a.r * (a.w + a.w)) a.room.now))) n
+          ∙ length_term (a.w + a.w) a.room.now a.r (inside a.r a.modes a.w _ c.requires.1 c.requires.2),
     )
 
 pub returns : goal.returns
@@ -41,4 +48,5 @@ returns c =
     let a = c.args in
     let n : a.r * (a.w + a.w) + (a.w + a.w) - a.r * (a.w + a.w) ≡ a.w + a.w = omega arith in
     let rest = drop (a.r * (a.w + a.w)) a.room.now in
-    ap₂ (λ (l : List ℕ) (k : ℕ). take (a.r * (a.w + a.w)) a.room.now ++ (l ++ drop k rest)) (c.join.ensures ∙ ap₂ (λ (l m : List ℕ). l ++ m) c.row.ensures c.row-2.ensures) n
+    ap₂ (λ (l : List ℕ) (k : ℕ). take (a.r * (a.w + a.w)) a.room.now ++ (l ++ drop k rest))
+    (c.join.ensures ∙ ap₂ (λ (l m : List ℕ). l ++ m) c.row.ensures c.row-2.ensures) n

@@ -22,7 +22,12 @@ loop-r-preserved c =
     let a = c.args in
     let f : ℕ → List ℕ = λ k. term_of a.w a.x.now k ++ term_of a.w a.z.now k in
     let len : length (f l.r) ≡ a.w + a.w =
-    omega (arith, length-append (term_of a.w a.x.now l.r) (term_of a.w a.z.now l.r), length_term a.w a.x.now l.r (x_row c.requires.0 l.r (omega arith)), length_term a.w a.z.now l.r (z_row c.requires.0 l.r (omega arith))) in
+    omega (
+      arith,
+      length-append (term_of a.w a.x.now l.r) (term_of a.w a.z.now l.r),
+      length_term a.w a.x.now l.r (x_row c.requires.0 l.r (omega arith)),
+      length_term a.w a.z.now l.r (z_row c.requires.0 l.r (omega arith)),
+    ) in
     (omega arith, rw c.load_row.ensures (fill_next l.r (2 * a.modes) (a.w + a.w) f a.room.now l.room (omega arith) c.requires.1 len l.invariant.1))
 
 pub returns : goal.returns

@@ -20,7 +20,8 @@ returns c =
     let d = c.dependent_rows in
     let size = 2 * a.modes * (a.w + a.w) in
     let r = dependent_call m (a.w + a.w) a.w ws d.new.room d.result d.ensures
-    (fits_of 512 8 (2 * a.modes) (a.w + a.w) (length ws) (record { few = omega (arith, c.requires.0.modes); narrow = omega (arith, c.requires.0.words); inside = omega (arith, c.requires.1, loaded.same.long) }))
+    (fits_of 512 8 (2 * a.modes) (a.w + a.w) (length ws)
+    (record { few = omega (arith, c.requires.0.modes); narrow = omega (arith, c.requires.0.words); inside = omega (arith, c.requires.1, loaded.same.long) }))
     (λ k h. loaded_rows (2 * a.modes) a.w a.x.now a.z.now a.room.now ws k (x_row c.requires.0 k h) (λ i. (c.type_inv.x i).fits) h loaded) in (
       r.0,
       record {

@@ -20,4 +20,12 @@ pub slice_bounds-decode_in-end-2 : goal.slice_bounds-decode_in-end-2
 slice_bounds-decode_in-end-2 c = sym (length-take-le _ _ (few (goal.at.slice_bounds-decode_in-end-2 c).After-words_for-lw))
 
 pub decode_in-requires : goal.decode_in-requires
-decode_in-requires c = (c.requires.0, c.requires.1, c.requires.2, length-take-le _ _ c.requires.0.fits.words, length-take-le _ _ (few (goal.at.decode_in-requires c).After-words_for-lw) ∙ c.words_for-lw.ensures, zeros c.words_for-lw.result, c.requires.3)
+decode_in-requires c = (
+  c.requires.0,
+  c.requires.1,
+  c.requires.2,
+  length-take-le _ _ c.requires.0.fits.words,
+  length-take-le _ _ (few (goal.at.decode_in-requires c).After-words_for-lw) ∙ c.words_for-lw.ensures,
+  zeros c.words_for-lw.result,
+  c.requires.3,
+)

@@ -14,7 +14,8 @@ invariant-loop-k l =
     (l.k ≤ l.modes)
     × (length l.s ≡ l.w)
     × (Words l.s)
-    × (encode_from (modes_at l.modes l.w l.x l.z l.phases) (value l.list) l.k (done (value l.s) ((l.f.power + 2 * ones l.fold) % 4)) ≡ encode (modes_at l.modes l.w l.x l.z l.phases) (value l.vacuum) (value l.list))
+    × (encode_from (modes_at l.modes l.w l.x l.z l.phases) (value l.list) l.k (done (value l.s) ((l.f.power + 2 * ones l.fold) % 4))
+    ≡ encode (modes_at l.modes l.w l.x l.z l.phases) (value l.vacuum) (value l.list))
 
 abbrev pub decreases-loop-k : goal.decreases-loop-k
 decreases-loop-k l = l.k

@@ -15,7 +15,10 @@ invariant-loop-i l =
     × (length l.l ≡ length l.initial.l)
     × (Words l.s)
     × (Words l.l)
-    × ((a : ℕ) × (value l.l ≡ a * 2 ^ l.i) × (decode_from (modes_at l.modes l.w l.x l.z l.phases) (value l.vacuum) l.i a (value l.s) ≡ decode (modes_at l.modes l.w l.x l.z l.phases) (value l.vacuum) (value l.initial.s)))
+    × ((a : ℕ)
+    × (value l.l ≡ a * 2 ^ l.i)
+    × (decode_from (modes_at l.modes l.w l.x l.z l.phases) (value l.vacuum) l.i a (value l.s)
+    ≡ decode (modes_at l.modes l.w l.x l.z l.phases) (value l.vacuum) (value l.initial.s)))
 
 abbrev pub decreases-loop-i : goal.decreases-loop-i
 decreases-loop-i l = l.i

@@ -23,9 +23,10 @@ across-requires c = rw (c.row.ensures, c.row-2.ensures, c.row-3.ensures, c.row-4
 
 pub returns : goal.returns
 returns c =
-    let i = c.args.i in
-    let s = c.args.s.now in
-    let xs : Words c.args.x.now = λ j. (c.type_inv.x j).fits in
+    let a = c.args in
+    let i = a.i in
+    let s = a.s.now in
+    let xs : Words a.x.now = λ j. (c.type_inv.x j).fits in
     let ss : Words s = λ j. (c.slice_known-1.given j).fits in
     let walked = rw (c.row.ensures, c.row-2.ensures, c.row-3.ensures, c.row-4.ensures) at c.across.ensures in (
       tells c.requires.0 i c.requires.1 s xs (λ j. (c.type_inv.z j).fits) ss c.across.result walked.0,

@@ -18,9 +18,10 @@ returns-then-not-is_paired c = rw (sym c.is_paired.ensures ∙ c.if-not-is_paire
 pub returns : goal.returns
 unfolding empty
 returns c =
-    let m = (let a = c.args in modes_at a.modes a.w a.x.now a.z.now a.phases.now) in
-    let i = c.args.i in
-    let t = value c.args.s.now in
+    let a = c.args in
+    let m = modes_at a.modes a.w a.x.now a.z.now a.phases.now in
+    let i = a.i in
+    let t = value a.s.now in
     let p : paired m i ≡ true = sym c.is_paired.ensures ∙ c.if-not-is_paired.false in
     rw p
     (ap₂ (λ (a : Bool) (b : ℕ). beq a (eqb b 2)) c.reads.ensures c.difference.ensures

@@ -13,10 +13,14 @@ row-requires-2 c = x_hi c.requires.0 c.args.i c.requires.1
 
 pub returns-then-not-same : goal.returns-then-not-same
 returns-then-not-same c =
-    let compared : c.same.result ≡ alike (term_of c.args.w c.args.x.now (2 * c.args.i)) (term_of c.args.w c.args.x.now (2 * c.args.i + 1)) = c.same.ensures ∙ ap₂ alike c.row.ensures c.row-2.ensures in
-    unlike c.requires.0 c.args.i c.requires.1 (λ k. (c.type_inv.x k).fits) (sym compared ∙ c.if-not-same.true)
+    let a = c.args in
+    let compared : c.same.result ≡ alike (term_of a.w a.x.now (2 * a.i)) (term_of a.w a.x.now (2 * a.i + 1)) =
+    c.same.ensures ∙ ap₂ alike c.row.ensures c.row-2.ensures in
+    unlike c.requires.0 a.i c.requires.1 (λ k. (c.type_inv.x k).fits) (sym compared ∙ c.if-not-same.true)
 
 pub returns : goal.returns
 returns c =
-    let compared : c.same.result ≡ alike (term_of c.args.w c.args.x.now (2 * c.args.i)) (term_of c.args.w c.args.x.now (2 * c.args.i + 1)) = c.same.ensures ∙ ap₂ alike c.row.ensures c.row-2.ensures in
-    paired_by c.requires.0 c.args.i c.requires.1 (λ k. (c.type_inv.x k).fits) c.difference.result (sym compared ∙ c.if-not-same.false) c.difference.ensures
+    let a = c.args in
+    let compared : c.same.result ≡ alike (term_of a.w a.x.now (2 * a.i)) (term_of a.w a.x.now (2 * a.i + 1)) =
+    c.same.ensures ∙ ap₂ alike c.row.ensures c.row-2.ensures in
+    paired_by c.requires.0 a.i c.requires.1 (λ k. (c.type_inv.x k).fits) c.difference.result (sym compared ∙ c.if-not-same.false) c.difference.ensures

@@ -21,4 +21,5 @@ beside-requires c = rw (c.row.ensures, c.row-2.ensures, c.row-3.ensures, c.row-4
 pub returns : goal.returns
 returns c =
     let walked = rw (c.row.ensures, c.row-2.ensures, c.row-3.ensures, c.row-4.ensures) at c.beside.ensures in
-    tells c.requires.0 c.args.i c.requires.1 c.args.s.now (λ j. (c.type_inv.x j).fits) (λ j. (c.type_inv.z j).fits) (λ j. (c.type_inv.s j).fits) c.beside.result walked
+    tells c.requires.0 c.args.i c.requires.1 c.args.s.now (λ j. (c.type_inv.x j).fits) (λ j. (c.type_inv.z j).fits)
+    (λ j. (c.type_inv.s j).fits) c.beside.result walked

@@ -17,15 +17,24 @@ is_empty-requires c = (c.requires, omega arith)
 
 pub returns-then-not-is_empty : goal.returns-then-not-is_empty
 returns-then-not-is_empty c =
+    let a = c.args in
+    let none = λ (k : ℕ). empty (modes_at a.modes a.w a.x.now a.z.now a.phases.now) k (value a.v.now) in
     let l = c.loop-i in
-    sym (l.invariant.1 ∙ all_here l.i (λ (k : ℕ). let a = c.args in empty (modes_at a.modes a.w a.x.now a.z.now a.phases.now) k (value a.v.now)) (omega arith) (sym c.is_empty.ensures ∙ c.if-not-is_empty.true))
+    sym (l.invariant.1 ∙ all_here l.i none (omega arith) (sym c.is_empty.ensures ∙ c.if-not-is_empty.true))
 
 pub loop-i-preserved : goal.loop-i-preserved
 loop-i-preserved c =
-    let l = c.loop-i in
-    (omega arith, l.invariant.1 ∙ all_below_lem l.i (λ (k : ℕ). let a = c.args in empty (modes_at a.modes a.w a.x.now a.z.now a.phases.now) k (value a.v.now)) (omega arith) (sym c.is_empty.ensures ∙ c.if-not-is_empty.false))
+    let a = c.args in
+    let none = λ (k : ℕ). empty (modes_at a.modes a.w a.x.now a.z.now a.phases.now) k (value a.v.now) in
+    let l = c.loop-i in (
+      omega arith,
+      l.invariant.1 ∙ all_below_lem l.i none (omega arith)
+          (sym c.is_empty.ensures ∙ c.if-not-is_empty.false),
+    )
 
 pub returns : goal.returns
 returns c =
+    let a = c.args in
+    let none = λ (k : ℕ). empty (modes_at a.modes a.w a.x.now a.z.now a.phases.now) k (value a.v.now) in
     let l = c.loop-i in
-    sym (l.invariant.1 ∙ all_none l.i (λ (k : ℕ). let a = c.args in empty (modes_at a.modes a.w a.x.now a.z.now a.phases.now) k (value a.v.now)) (omega arith))
+    sym (l.invariant.1 ∙ all_none l.i none (omega arith))

@@ -8,7 +8,10 @@ use Rattle.majorana.specs.Sets.{modes_at}
 use Rattle.majorana.proofs.mode.vacuum_rule.Given as goal
 
 abbrev pub invariant-loop-i : goal.invariant-loop-i
-invariant-loop-i l = (l.i ≤ l.modes) × (vacuum_rule (modes_at l.modes l.w l.x l.z l.phases) (value l.v) ≡ all_below l.i (λ k. empty (modes_at l.modes l.w l.x l.z l.phases) k (value l.v)))
+invariant-loop-i l =
+    (l.i ≤ l.modes)
+    × (vacuum_rule (modes_at l.modes l.w l.x l.z l.phases) (value l.v)
+    ≡ all_below l.i (λ k. empty (modes_at l.modes l.w l.x l.z l.phases) k (value l.v)))
 
 abbrev pub decreases-loop-i : goal.decreases-loop-i
 decreases-loop-i l = l.i

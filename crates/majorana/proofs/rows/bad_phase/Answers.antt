@@ -41,7 +41,8 @@ loop-i-preserved c =
     let p = get_or c.args.phases.now l.i 0 in (
       omega (arith, c.loop-i-test.true),
       l.invariant.1,
-      ap (ltb 3) c.larger-top.ensures ∙ either l.top p ∙ ap (λ (b : Bool). ltb 3 p || b) l.invariant.2 ∙ sym (some_next l.i (λ (k : ℕ). ltb 3 (get_or c.args.phases.now k 0))),
+      ap (ltb 3) c.larger-top.ensures ∙ either l.top p ∙ ap (λ (b : Bool). ltb 3 p || b) l.invariant.2
+          ∙ sym (some_next l.i (λ (k : ℕ). ltb 3 (get_or c.args.phases.now k 0))),
     )
 
 pub returns : goal.returns

@@ -10,14 +10,23 @@ use Rattle.majorana.proofs.rows.short_two.Goals as goal
 pub returns-then-rows_short : goal.returns-then-rows_short
 returns-then-rows_short c =
     let a = c.args in
-    sym (set_too_short a.modes a.w a.x a.z a.p c.requires.0 c.requires.1 ((a.n1 of a.h1) ∷ (a.n2 of a.h2) ∷ []) (sym c.rows_short.ensures ∙ c.if-rows_short.true))
+    sym (set_too_short a.modes a.w a.x a.z a.p c.requires.0 c.requires.1 ((a.n1 of a.h1) ∷ (a.n2 of a.h2) ∷ [])
+    (sym c.rows_short.ensures ∙ c.if-rows_short.true))
 
 pub returns-then-h1-n1 : goal.returns-then-h1-n1
 returns-then-h1-n1 c =
     let a = c.args in
-    rw (set_long a.modes a.w a.x a.z a.p c.requires.0 c.requires.1 ((a.n1 of a.h1) ∷ (a.n2 of a.h2) ∷ []) (sym c.rows_short.ensures ∙ c.if-rows_short.false), lt-ltb _ _ c.if-h1-n1.true)
+    rw (
+      set_long a.modes a.w a.x a.z a.p c.requires.0 c.requires.1 ((a.n1 of a.h1) ∷ (a.n2 of a.h2) ∷ [])
+          (sym c.rows_short.ensures ∙ c.if-rows_short.false),
+      lt-ltb _ _ c.if-h1-n1.true,
+    )
 
 pub returns : goal.returns
 returns c =
     let a = c.args in
-    rw (set_long a.modes a.w a.x a.z a.p c.requires.0 c.requires.1 ((a.n1 of a.h1) ∷ (a.n2 of a.h2) ∷ []) (sym c.rows_short.ensures ∙ c.if-rows_short.false), le-ltb _ _ c.if-h1-n1.false) (sym (or_false _))
+    rw (
+      set_long a.modes a.w a.x a.z a.p c.requires.0 c.requires.1 ((a.n1 of a.h1) ∷ (a.n2 of a.h2) ∷ [])
+          (sym c.rows_short.ensures ∙ c.if-rows_short.false),
+      le-ltb _ _ c.if-h1-n1.false,
+    ) (sym (or_false _))

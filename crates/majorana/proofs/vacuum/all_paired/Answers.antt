@@ -16,15 +16,25 @@ is_paired-requires c = (c.requires, omega arith)
 
 pub returns-then-not-is_paired : goal.returns-then-not-is_paired
 returns-then-not-is_paired c =
+    let a = c.args in
+    let m = modes_at a.modes a.w a.x.now a.z.now a.phases.now in
     let l = c.loop-i in
-    sym (l.invariant.1 ∙ all_here l.i (let a = c.args in paired (modes_at a.modes a.w a.x.now a.z.now a.phases.now)) (omega arith) (sym c.is_paired.ensures ∙ c.if-not-is_paired.true))
+    sym (l.invariant.1 ∙ all_here l.i (paired m) (omega arith)
+    (sym c.is_paired.ensures ∙ c.if-not-is_paired.true))
 
 pub loop-i-preserved : goal.loop-i-preserved
 loop-i-preserved c =
-    let l = c.loop-i in
-    (omega arith, l.invariant.1 ∙ all_below_lem l.i (let a = c.args in paired (modes_at a.modes a.w a.x.now a.z.now a.phases.now)) (omega arith) (sym c.is_paired.ensures ∙ c.if-not-is_paired.false))
+    let a = c.args in
+    let m = modes_at a.modes a.w a.x.now a.z.now a.phases.now in
+    let l = c.loop-i in (
+      omega arith,
+      l.invariant.1 ∙ all_below_lem l.i (paired m) (omega arith)
+          (sym c.is_paired.ensures ∙ c.if-not-is_paired.false),
+    )
 
 pub returns : goal.returns
 returns c =
+    let a = c.args in
+    let m = modes_at a.modes a.w a.x.now a.z.now a.phases.now in
     let l = c.loop-i in
-    sym (l.invariant.1 ∙ all_none l.i (let a = c.args in paired (modes_at a.modes a.w a.x.now a.z.now a.phases.now)) (omega arith))
+    sym (l.invariant.1 ∙ all_none l.i (paired m) (omega arith))

@@ -23,5 +23,8 @@ returns-then-number-eq0 c =
 pub returns-else-number-eq0 : goal.returns-else-number-eq0
 returns-else-number-eq0 c =
     let a = c.args in
-    let r = c.check_held-answer in
-    (r.ensures.0, sym (if_refused (answered r.result) (a.v.now ++ drop a.w a.out.now) a.out.now (λ h. c.if-number-eq0.false (c.number.ensures ∙ h))), r.ensures.1)
+    let r = c.check_held-answer in (
+      r.ensures.0,
+      sym (if_refused (answered r.result) (a.v.now ++ drop a.w a.out.now) a.out.now (λ h. c.if-number-eq0.false (c.number.ensures ∙ h))),
+      r.ensures.1,
+    )

@@ -9,9 +9,12 @@ pub slice_bounds-copy-end-2 : goal.slice_bounds-copy-end-2
 slice_bounds-copy-end-2 c = sym (length-take-le _ _ (omega (arith, c.requires.2)))
 
 pub slice_bounds-xor_assign-end-2 : goal.slice_bounds-xor_assign-end-2
-slice_bounds-xor_assign-end-2 c = sym (front_long c.args.w c.args.part.now c.args.a.now c.copy.new.dst (omega (arith, c.requires.2)) c.copy.ensures)
+slice_bounds-xor_assign-end-2 c =
+    let a = c.args in
+    sym (front_long a.w a.part.now a.a.now c.copy.new.dst (omega (arith, c.requires.2)) c.copy.ensures)
 
 pub returns : goal.returns
 returns c =
     let a = c.args in
-    equation_made a.w a.part.now a.a.now a.b.now a.right c.requires.0 c.requires.1 c.requires.2 c.copy.new.dst c.xor_assign.new.dst c.copy.ensures c.xor_assign.ensures
+    equation_made a.w a.part.now a.a.now a.b.now a.right c.requires.0 c.requires.1 c.requires.2 c.copy.new.dst c.xor_assign.new.dst c.copy.ensures
+    c.xor_assign.ensures

@@ -11,17 +11,20 @@ use Rattle.majorana.proofs.vacuum.load_equation.Goals as goal
 
 pub overflow_mul-a : goal.overflow_mul-a
 overflow_mul-a c =
-    let inside : c.args.i * (c.args.w + 1) + (c.args.w + 1) ≤ length c.args.room.now = row_within c.args.i c.args.modes (c.args.w + 1) (length c.args.room.now) c.requires.1 c.requires.2 in
+    let a = c.args in
+    let inside : a.i * (a.w + 1) + (a.w + 1) ≤ length a.room.now = row_within a.i a.modes (a.w + 1) (length a.room.now) c.requires.1 c.requires.2 in
     record { fits = omega (arith, inside) }
 
 pub overflow_add-e : goal.overflow_add-e
 overflow_add-e c =
-    let inside : c.args.i * (c.args.w + 1) + (c.args.w + 1) ≤ length c.args.room.now = row_within c.args.i c.args.modes (c.args.w + 1) (length c.args.room.now) c.requires.1 c.requires.2 in
+    let a = c.args in
+    let inside : a.i * (a.w + 1) + (a.w + 1) ≤ length a.room.now = row_within a.i a.modes (a.w + 1) (length a.room.now) c.requires.1 c.requires.2 in
     record { fits = omega (arith, inside) }
 
 pub offset_bounds-room-a : goal.offset_bounds-room-a
 offset_bounds-room-a c =
-    let inside : c.args.i * (c.args.w + 1) + (c.args.w + 1) ≤ length c.args.room.now = row_within c.args.i c.args.modes (c.args.w + 1) (length c.args.room.now) c.requires.1 c.requires.2 in
+    let a = c.args in
+    let inside : a.i * (a.w + 1) + (a.w + 1) ≤ length a.room.now = row_within a.i a.modes (a.w + 1) (length a.room.now) c.requires.1 c.requires.2 in
     record { fits = omega (arith, inside) }
 
 pub row-requires : goal.row-requires
@@ -32,8 +35,8 @@ row-requires-2 c = z_row c.requires.0.fits (2 * c.args.i + 1) (omega (arith, c.r
 
 pub equation-requires : goal.equation-requires
 equation-requires c =
-    let inside : c.args.i * (c.args.w + 1) + (c.args.w + 1) ≤ length c.args.room.now = row_within c.args.i c.args.modes (c.args.w + 1) (length c.args.room.now) c.requires.1 c.requires.2 in
     let a = c.args in
+    let inside : a.i * (a.w + 1) + (a.w + 1) ≤ length a.room.now = row_within a.i a.modes (a.w + 1) (length a.room.now) c.requires.1 c.requires.2 in
     let n : a.i * (a.w + 1) + (a.w + 1) - a.i * (a.w + 1) ≡ a.w + 1 = omega arith in (
       ap length c.row.ensures ∙ length_term a.w a.z.now (2 * a.i) (z_row c.requires.0.fits (2 * a.i) (omega (arith, c.requires.1))),
       ap length c.row-2.ensures ∙ length_term a.w a.z.now (2 * a.i + 1) (z_row c.requires.0.fits (2 * a.i + 1) (omega (arith, c.requires.1))),

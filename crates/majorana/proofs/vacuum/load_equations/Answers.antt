@@ -17,8 +17,11 @@ pub loop-i-preserved : goal.loop-i-preserved
 loop-i-preserved c =
     let l = c.loop-i in
     let a = c.args in
-    let f = equation_of a.modes a.w a.x.now a.z.now a.phases.now in
-    (omega arith, rw c.load_equation.ensures (fill_next l.i a.modes (a.w + 1) f a.room.now l.room (omega arith) c.requires.1 (length_equation a.modes a.w a.x.now a.z.now a.phases.now l.i c.requires.0.fits (omega arith)) l.invariant.1))
+    let f = equation_of a.modes a.w a.x.now a.z.now a.phases.now in (
+      omega arith,
+      rw c.load_equation.ensures (fill_next l.i a.modes (a.w + 1) f a.room.now l.room (omega arith) c.requires.1
+          (length_equation a.modes a.w a.x.now a.z.now a.phases.now l.i c.requires.0.fits (omega arith)) l.invariant.1),
+    )
 
 pub returns : goal.returns
 returns c =

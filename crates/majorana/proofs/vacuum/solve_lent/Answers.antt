@@ -8,7 +8,8 @@ use Rattle.majorana.proofs.vacuum.solve_lent.Goals as goal
 pub returns-then-bad_rows : goal.returns-then-bad_rows
 returns-then-bad_rows c =
     let a = c.args in
-    solved_bad (let a = c.args in modes_at a.modes a.w a.x.now a.z.now a.phases.now) a.qubits a.w a.v.now a.room.now (sym (c.bad_rows.ensures ∙ few_bad _ _ _ _ _ _ c.requires.0.modes) ∙ c.if-bad_rows.true)
+    let m = modes_at a.modes a.w a.x.now a.z.now a.phases.now in
+    solved_bad m a.qubits a.w a.v.now a.room.now (sym (c.bad_rows.ensures ∙ few_bad _ _ _ _ _ _ c.requires.0.modes) ∙ c.if-bad_rows.true)
 
 pub solve_held-requires : goal.solve_held-requires
 solve_held-requires c =
@@ -19,13 +20,15 @@ solve_held-requires c =
 pub returns-then-solve_held : goal.returns-then-solve_held
 returns-then-solve_held c =
     let a = c.args in
+    let m = modes_at a.modes a.w a.x.now a.z.now a.phases.now in
     let good = sym (c.bad_rows.ensures ∙ few_bad _ _ _ _ _ _ c.requires.0.modes) ∙ c.if-bad_rows.false in
     let e = c.solve_held.ensures in
-    solved_done (let a = c.args in modes_at a.modes a.w a.x.now a.z.now a.phases.now) a.qubits a.w a.v.now a.room.now good (sym e.0 ∙ c.if-solve_held.true) e.1 e.2
+    solved_done m a.qubits a.w a.v.now a.room.now good (sym e.0 ∙ c.if-solve_held.true) e.1 e.2
 
 pub returns : goal.returns
 returns c =
     let a = c.args in
+    let m = modes_at a.modes a.w a.x.now a.z.now a.phases.now in
     let good = sym (c.bad_rows.ensures ∙ few_bad _ _ _ _ _ _ c.requires.0.modes) ∙ c.if-bad_rows.false in
     let e = c.solve_held.ensures in
-    solved_none (let a = c.args in modes_at a.modes a.w a.x.now a.z.now a.phases.now) a.qubits a.w a.v.now a.room.now good (sym e.0 ∙ c.if-solve_held.false) e.1 e.2
+    solved_none m a.qubits a.w a.v.now a.room.now good (sym e.0 ∙ c.if-solve_held.false) e.1 e.2

@@ -32,4 +32,5 @@ returns c =
     let l = c.loop-next in
     let a = c.args in
     walk_end c.requires l.next l.apart l.first l.invariant.1 (omega (arith, c.requires.few)) l.both
-    (both_done a.z0.now a.s.now a.z1.now a.s.now l.next l.both _ (omega (arith, c.requires.few, c.requires.z_lo)) (omega (arith, c.requires.few, c.requires.z_hi)) l.invariant.2)
+    (both_done a.z0.now a.s.now a.z1.now a.s.now l.next l.both _ (omega (arith, c.requires.few, c.requires.z_lo))
+    (omega (arith, c.requires.few, c.requires.z_hi)) l.invariant.2)
