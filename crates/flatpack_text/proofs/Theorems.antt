@@ -1,9 +1,9 @@
 -- What the calls of `flatpack_text` promise together.
 --
 -- In plain words: a text that is handed over in chunks, of any number and any lengths, one after another from `start`, is read as if it were lent whole. `finish` answers
--- what the definition of well-formed text (specs/Text.antt) says of the chunks joined, and the table holds the entries that the definition says: `chunks-read`. How a
--- text is cut into chunks makes no difference: `chunks-any`. A line that is no entry makes the text malformed wherever it stands, and so does a byte after the last line
--- feed: `bad-line-anywhere`, `bad-end`. No input leaves a call two outcomes: `feed-outcome`, `finish-outcome`, `read-outcome`. Below, a call is its contract: `Feeds`, `Finishes`
+-- what the definition of well-formed text (specs/Text.antt) says of the chunks joined, and the table holds the entries that the definition says: `chunks_read`. How a
+-- text is cut into chunks makes no difference: `chunks_any`. A line that is no entry makes the text malformed wherever it stands, and so does a byte after the last line
+-- feed: `bad_line_anywhere`, `bad_end`. No input leaves a call two outcomes: `feed_outcome`, `finish_outcome`, `read_outcome`. Below, a call is its contract: `Feeds`, `Finishes`
 -- and `Reads` of specs/Calls.antt.
 use Prim.Native.Nat.{ℕ}
 use mathlib.Core.Path.{◌≡◌, refl, sym, ap, ◌∙◌}

@@ -1,10 +1,10 @@
 -- What the calls of `report` promise together with those of `flatpack_text`.
 --
 -- In plain words: the reply to a text that was fed, in chunks of any number and any lengths, is its output, byte for byte (specs/Output.antt): the report of its tree, or the
--- number of the first refusal: `text-answered`. The number in the reply is that of the definition, 16 if the text is not well formed and else the verdict on its entries, and its
--- line is the first that is no entry, 0 if every line is one: `text-numbered`. What `locate` names is that line, or the slot for which the entries are refused: the first slot of the
--- text's tree that has a fault, with the number refused as its fault (specs/Located.antt). It names no slot for any other refusal, and none that is not at fault: `text-located`.
--- Where it names neither, the entries are refused by 1, or a qubit has two entries, or no slot is at fault: `text-unlocated`. No input leaves `respond` two outcomes: `respond-outcome`.
+-- number of the first refusal: `text_answered`. The number in the reply is that of the definition, 16 if the text is not well formed and else the verdict on its entries, and its
+-- line is the first that is no entry, 0 if every line is one: `text_numbered`. What `locate` names is that line, or the slot for which the entries are refused: the first slot of the
+-- text's tree that has a fault, with the number refused as its fault (specs/Located.antt). It names no slot for any other refusal, and none that is not at fault: `text_located`.
+-- Where it names neither, the entries are refused by 1, or a qubit has two entries, or no slot is at fault: `text_unlocated`. No input leaves `respond` two outcomes: `respond_outcome`.
 -- Below, a call is its contract: `FedInTurn` has a call of `feed` for each chunk, `Replied` and `located` of specs/Replies.antt are `respond` and `locate`.
 use Prim.Native.Nat.{ℕ, ◌*◌, ◌≤◌, ◌<◌}
 use mathlib.Core.Path.{◌≡◌, sym, ap, ◌∙◌, subst}

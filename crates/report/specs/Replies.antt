@@ -1,5 +1,5 @@
 -- For the private functions of `respond` and `locate`, and needs no belief: for a text read from `start`, with a table of 1024 numbers and a buffer of 164,480 bytes, as the program
--- has them, `text-answered`, `text-numbered` and `text-located` (proofs/Theorems.antt) say what it comes to. What shorter tables and buffers are left with is read here.
+-- has them, `text_answered`, `text_numbered` and `text_located` (proofs/Theorems.antt) say what it comes to. What shorter tables and buffers are left with is read here.
 use Rattle.std.specs.Prelude.{ℕ, zero, suc, ◌*◌, min, List, ◌≡◌, true, false, replicate}
 use Rattle.refusal.specs.Numbers.{Paper, bare, answered}
 use Rattle.refusal.specs.Search.{Least}

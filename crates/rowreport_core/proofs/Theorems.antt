@@ -2,16 +2,16 @@
 --
 -- In plain words: take a text in chunks of any number and lengths, none empty, from `begin` on, each call of `take` with what the one before it answered; then `texts` leaves the text's output,
 -- byte for byte, in the buffer for standard output, and in the one for standard error nothing if the text is done, and else the sentence for its refusal, with the line that is no
--- entry or the slot for which it is refused: `program-answers`. The lengths of the buffers are those of their types. Below, a call is its contract: `Takes` has the calls of `take`,
+-- entry or the slot for which it is refused: `program_answers`. The lengths of the buffers are those of their types. Below, a call is its contract: `Takes` has the calls of `take`,
 -- `Answers` is `texts`.
 use Prim.Native.Nat.{ℕ, ◌≤◌}
 use native.Mathlib.Omega.{arith}
 use mathlib.Core.Path.{◌≡◌, refl, sym, ap, ◌∙◌, subst}
-use mathlib.Core.List.{List, [], ◌++◌}
+use mathlib.Core.List.{List}
 use mathlib.Core.Bool.{true}
 use borrow.Author.Tests.{le-leb}
 use lib.Dec.{leb}
-use lib.ListN.{length, drop, replicate, length-replicate}
+use lib.ListN.{length, replicate, length-replicate}
 use Rattle.refusal.specs.declared.Answer.{Answer}
 use Rattle.refusal.specs.declared.Answer.TheVariants.{Done, Refused}
 use Rattle.refusal.proofs.Outcome.{one_outcome}

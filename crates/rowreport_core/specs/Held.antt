@@ -1,4 +1,4 @@
--- For `texts` and its private function, and needs no belief: what is written, from what is held. For a text, `program-answers` (proofs/Theorems.antt) says what it comes to.
+-- For `texts` and its private function, and needs no belief: what is written, from what is held. For a text, `program_answers` (proofs/Theorems.antt) says what it comes to.
 use Rattle.std.specs.Prelude.{ℕ, ◌≡◌, List}
 use Rattle.refusal.specs.declared.Answer.{Answer}
 use Rattle.refusal.specs.declared.Answer.TheVariants.{Done, Refused}
