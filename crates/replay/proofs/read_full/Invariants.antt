@@ -1,0 +1,9 @@
+-- In bounds, and ends: each read that adds nothing ends the loop.
+use Rattle.std.proofs.Common.{length, ◌-◌, ◌≤◌}
+use Rattle.replay.proofs.read_full.Given as goal
+
+abbrev pub invariant-loop-done : goal.invariant-loop-done
+invariant-loop-done g l = l.done ≤ length l.s
+
+abbrev pub decreases-loop-done : goal.decreases-loop-done
+decreases-loop-done g l = length l.initial.s - l.done
