@@ -21,15 +21,15 @@ GOAL = re.compile(r"(?:tie|goal)\.")
 SKIP = {"use", "where", "record", "data", "let", "in"}
 
 # names that would fall together with another: old, new
-NEW = {"bit-and": "bit_of_and", "bit-xor": "bit_of_xor", "some_below": "some_below_lem"}
+NEW = {"bit-and": "bit_of_and", "bit-xor": "bit_of_xor", "some_below": "some_below_lem", "x-part": "x_part", "z-part": "z_part"}
 # the same where a function of src/ or another crate's lemma has the name: only in these files
 NEW_IN = {
     "crates/maxnto/proofs/Examples.antt": {"too_short": "too_short_lem"},
     "crates/majorana/proofs/CheckAnswers.antt": {"rows_short": "rows_short_lem"},
     "crates/majorana/proofs/check_rows/Proof.antt": {"rows_short": "rows_short_lem"},
 }
-# no clash: one of the two is another crate's
-APART = {("plainAt", "plain_at")}
+# no clash: one of the two is another crate's, or a field
+APART = {("plainAt", "plain_at"), ("x-part", "xPart"), ("z-part", "zPart")}
 
 
 def snake(name):

@@ -34,7 +34,7 @@ product_z_lem = refl
 
 -- which stand for i Z on one column, and nothing else
 product_whole : Whole 1 (product x_then_y) (record { p = 1; xs = 0 ∷ 8 ∷ []; zs = 1 ∷ [] })
-product_whole = multiply_whole x_then_y (record { power = 1 }) false (0 ∷ 8 ∷ []) (1 ∷ []) (record { answer = sym product_done; x_part_lem = sym product_x_lem; z_part_lem = sym product_z_lem })
+product_whole = multiply_whole x_then_y (record { power = 1 }) false (0 ∷ 8 ∷ []) (1 ∷ []) (record { answer = sym product_done; x_part = sym product_x_lem; z_part = sym product_z_lem })
 
 -- ---- whether two rows commute
 

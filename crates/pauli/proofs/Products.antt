@@ -34,22 +34,22 @@ value_test i = bad_row i.q (trimmed i.q i.left) || bad_row i.q (trimmed i.q i.ri
 module _ (i : Input) where
   pub by_columns : bad_columns i.q ≡ true → Multiplied i (Refused Size) i.out_xs i.out_zs
   unfolding multiplied product_x product_z refused
-  by_columns h = record { answer = rw h; x_part_lem = rw h; z_part_lem = rw h }
+  by_columns h = record { answer = rw h; x_part = rw h; z_part = rw h }
 
   pub by_short : bad_columns i.q ≡ false → too_short i ≡ true → Multiplied i (Refused Short) i.out_xs i.out_zs
   unfolding multiplied product_x product_z refused
-  by_short h k = record { answer = rw (h, k); x_part_lem = rw (h, k); z_part_lem = rw (h, k) }
+  by_short h k = record { answer = rw (h, k); x_part = rw (h, k); z_part = rw (h, k) }
 
   pub by_value : bad_columns i.q ≡ false → too_short i ≡ false → value_test i ≡ true → Multiplied i (Refused Value) i.out_xs i.out_zs
   unfolding multiplied product_x product_z refused
-  by_value h k l = record { answer = rw (h, k, l); x_part_lem = rw (h, k, l); z_part_lem = rw (h, k, l) }
+  by_value h k l = record { answer = rw (h, k, l); x_part = rw (h, k, l); z_part = rw (h, k, l) }
 
   pub by_none : bad_columns i.q ≡ false → too_short i ≡ false → value_test i ≡ false → (f : Phase) (c : Bool) (xs zs : List ℕ)
       → f.power ≡ (product i).p → c ≡ commuting (left_row i) (right_row i)
       → xs ≡ filled (words_for i.q) (product i).x i.out_xs → zs ≡ filled (words_for i.q) (product i).z i.out_zs
       → Multiplied i (Done f c) xs zs
   unfolding multiplied product_x product_z refused
-  by_none h k l f c xs zs p m x z = record { answer = rw (h, k, l, p, m); x_part_lem = rw (h, k, l) x; z_part_lem = rw (h, k, l) z }
+  by_none h k l f c xs zs p m x z = record { answer = rw (h, k, l, p, m); x_part = rw (h, k, l) x; z_part = rw (h, k, l) z }
 
 -- ---- what the words stand for
 
@@ -119,4 +119,4 @@ product_injective (Refused r) (Refused s) e = ap Refused (paper_injective (ap (�
 
 pub multiply_outcome : (i : Input) (r s : Product) (xs xs' zs zs' : List ℕ) → Multiplied i r xs zs → Multiplied i s xs' zs' → (r ≡ s) × ((xs ≡ xs') × (zs ≡ zs'))
 multiply_outcome i r s xs xs' zs zs' m n =
-    (product_injective r s (one_outcome m.answer n.answer), (one_outcome m.x_part_lem n.x_part_lem, one_outcome m.z_part_lem n.z_part_lem))
+    (product_injective r s (one_outcome m.answer n.answer), (one_outcome m.x_part n.x_part, one_outcome m.z_part n.z_part))

@@ -91,8 +91,8 @@ module _ (i : Input) (f : Phase) (c : Bool) (xs zs : List ℕ) (m : Multiplied i
       let done = none_refused in
       written_whole i.q (product i) f.power xs zs i.out_xs i.out_zs product_on
       said.0
-      (m.x_part_lem ∙ ap (λ (p : Paper). on_done p (filled (words_for i.q) (product i).x i.out_xs) i.out_xs) done)
-      (m.z_part_lem ∙ ap (λ (p : Paper). on_done p (filled (words_for i.q) (product i).z i.out_zs) i.out_zs) done)
+      (m.x_part ∙ ap (λ (p : Paper). on_done p (filled (words_for i.q) (product i).x i.out_xs) i.out_xs) done)
+      (m.z_part ∙ ap (λ (p : Paper). on_done p (filled (words_for i.q) (product i).z i.out_zs) i.out_zs) done)
 
 -- ---- the call in both orders
 

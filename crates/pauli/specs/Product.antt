@@ -112,8 +112,8 @@ product_z i = on_done (refused i) (filled (words_for i.q) (product i).z i.out_zs
 -- what `multiply` promises of its answer r, and of the two parts at exit
 pub record Multiplied (i : Input) (r : Product) (xs zs : List ℕ) : Type 0 where
   pub answer : product_paper r ≡ multiplied i
-  pub x_part_lem : xs ≡ product_x i
-  pub z_part_lem : zs ≡ product_z i
+  pub x_part : xs ≡ product_x i
+  pub z_part : zs ≡ product_z i
 
 -- ---- a row left in lent words
 

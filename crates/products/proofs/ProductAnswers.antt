@@ -43,8 +43,8 @@ module _ (w : ℕ) (row : Row) (us vs : List ℕ) (f : Phase) (h : row_of f.powe
       let l : g.power ≡ row_power row = e ∙ ap row_power h in
       record {
         answer = λ i. record { told = bare 0; phase = p i; letters = l i };
-        x_part_lem = ap (λ (t : List ℕ). t ++ drop w oxs) a ∙ filled_by us oxs w lu pu ∙ ap (λ (r : Row). filled w r.x oxs) h;
-        z_part_lem = ap (λ (t : List ℕ). t ++ drop w ozs) b ∙ filled_by vs ozs w lv pv ∙ ap (λ (r : Row). filled w r.z ozs) h;
+        x_part = ap (λ (t : List ℕ). t ++ drop w oxs) a ∙ filled_by us oxs w lu pu ∙ ap (λ (r : Row). filled w r.x oxs) h;
+        z_part = ap (λ (t : List ℕ). t ++ drop w ozs) b ∙ filled_by vs ozs w lv pv ∙ ap (λ (r : Row). filled w r.z ozs) h;
       }
 
 -- ---- which test refuses
@@ -61,21 +61,21 @@ module _ (s : Set) (ks : List ℕ) where
 module _ (s : Set) (ks : List ℕ) (finite : Bool) (oxs ozs : List ℕ) where
   pub make_size : product_size s ks ≡ true → MakesOrRefuses s ks finite oxs ozs (MadeRefused Size) oxs ozs
   unfolding product_refused
-  make_size h = record { answer = rw h; x_part_lem = rw h; z_part_lem = rw h }
+  make_size h = record { answer = rw h; x_part = rw h; z_part = rw h }
 
   pub make_short : product_size s ks ≡ false → product_short s oxs ozs ≡ true → MakesOrRefuses s ks finite oxs ozs (MadeRefused Short) oxs ozs
   unfolding product_refused
-  make_short h k = record { answer = rw (h, k); x_part_lem = rw (h, k); z_part_lem = rw (h, k) }
+  make_short h k = record { answer = rw (h, k); x_part = rw (h, k); z_part = rw (h, k) }
 
   pub make_value : product_size s ks ≡ false → product_short s oxs ozs ≡ false → product_bad s ks finite ≡ true
       → MakesOrRefuses s ks finite oxs ozs (MadeRefused Value) oxs ozs
   unfolding product_refused
-  make_value h k l = record { answer = rw (h, k, l); x_part_lem = rw (h, k, l); z_part_lem = rw (h, k, l) }
+  make_value h k l = record { answer = rw (h, k, l); x_part = rw (h, k, l); z_part = rw (h, k, l) }
 
   pub make_done : product_size s ks ≡ false → product_short s oxs ozs ≡ false → product_bad s ks finite ≡ false
       → (r : Made) (xs zs : List ℕ) → Makes (width s) (product s ks) oxs ozs r xs zs → MakesOrRefuses s ks finite oxs ozs r xs zs
   unfolding product_refused
-  make_done h k l r xs zs m = record { answer = rw (h, k, l) m.answer; x_part_lem = rw (h, k, l) m.x_part_lem; z_part_lem = rw (h, k, l) m.z_part_lem }
+  make_done h k l r xs zs m = record { answer = rw (h, k, l) m.answer; x_part = rw (h, k, l) m.x_part; z_part = rw (h, k, l) m.z_part }
 
 -- ---- the answer with a coefficient
 
@@ -113,7 +113,7 @@ module _ (s : Set) (ks : List ℕ) (oxs ozs xs zs : List ℕ) (b : Bool) (m : Ma
         let t = ap (λ (t : MadeTold). t.told) n.answer in
         let v = ap (λ (t : MadeTold). t.phase) n.answer in
         let k = settled (λ j. turned j c) zero_coefficient (complex_refused s ks c oxs ozs) (product s ks) f g d n.answer h in
-        record { answer = λ i. record { told = t i; phase = v i; coefficient = k i }; x_part_lem = n.x_part_lem; z_part_lem = n.z_part_lem }
+        record { answer = λ i. record { told = t i; phase = v i; coefficient = k i }; x_part = n.x_part; z_part = n.z_part }
 
     pub complex_refused_lem : (r : Refusal) → m ≡ MadeRefused r → Multiplies s ks c oxs ozs (Refused r) xs zs
     complex_refused_lem r e =
@@ -121,7 +121,7 @@ module _ (s : Set) (ks : List ℕ) (oxs ozs xs zs : List ℕ) (b : Bool) (m : Ma
         let t = ap (λ (t : MadeTold). t.told) n.answer in
         let v = ap (λ (t : MadeTold). t.phase) n.answer in
         let k = stopped (λ j. turned j c) zero_coefficient (complex_refused s ks c oxs ozs) (product s ks) r n.answer in
-        record { answer = λ i. record { told = t i; phase = v i; coefficient = k i }; x_part_lem = n.x_part_lem; z_part_lem = n.z_part_lem }
+        record { answer = λ i. record { told = t i; phase = v i; coefficient = k i }; x_part = n.x_part; z_part = n.z_part }
 
   module _ (c : Float) (same : b ≡ is_finite c) where
     pub real_done : (f g : Phase) → m ≡ MadeDone f g → (d : Marked) → d ≡ marked (g.power % 4) c → RealMultiplies s ks c oxs ozs (RealDone f d) xs zs
@@ -130,7 +130,7 @@ module _ (s : Set) (ks : List ℕ) (oxs ozs xs zs : List ℕ) (b : Bool) (m : Ma
         let t = ap (λ (t : MadeTold). t.told) n.answer in
         let v = ap (λ (t : MadeTold). t.phase) n.answer in
         let k = settled (λ j. marked j c) (Real zero_float) (real_refused s ks c oxs ozs) (product s ks) f g d n.answer h in
-        record { answer = λ i. record { told = t i; phase = v i; coefficient = k i }; x_part_lem = n.x_part_lem; z_part_lem = n.z_part_lem }
+        record { answer = λ i. record { told = t i; phase = v i; coefficient = k i }; x_part = n.x_part; z_part = n.z_part }
 
     pub real_refused_lem : (r : Refusal) → m ≡ MadeRefused r → RealMultiplies s ks c oxs ozs (RealRefused r) xs zs
     real_refused_lem r e =
@@ -138,7 +138,7 @@ module _ (s : Set) (ks : List ℕ) (oxs ozs xs zs : List ℕ) (b : Bool) (m : Ma
         let t = ap (λ (t : MadeTold). t.told) n.answer in
         let v = ap (λ (t : MadeTold). t.phase) n.answer in
         let k = stopped (λ j. marked j c) (Real zero_float) (real_refused s ks c oxs ozs) (product s ks) r n.answer in
-        record { answer = λ i. record { told = t i; phase = v i; coefficient = k i }; x_part_lem = n.x_part_lem; z_part_lem = n.z_part_lem }
+        record { answer = λ i. record { told = t i; phase = v i; coefficient = k i }; x_part = n.x_part; z_part = n.z_part }
 
 -- ---- one outcome
 
@@ -162,7 +162,7 @@ real_injective (RealRefused r) (RealRefused t) e = ap RealRefused (paper_injecti
 
 module _ (s : Set) (ks oxs ozs : List ℕ) (xs xs' zs zs' : List ℕ) where
   pub product_outcome : (c : Coefficient) (r t : Multiplied) → Multiplies s ks c oxs ozs r xs zs → Multiplies s ks c oxs ozs t xs' zs' → (r ≡ t) × (xs ≡ xs') × (zs ≡ zs')
-  product_outcome c r t a b = (multiplied_injective r t (one_outcome a.answer b.answer), one_outcome a.x_part_lem b.x_part_lem, one_outcome a.z_part_lem b.z_part_lem)
+  product_outcome c r t a b = (multiplied_injective r t (one_outcome a.answer b.answer), one_outcome a.x_part b.x_part, one_outcome a.z_part b.z_part)
 
   pub real_outcome : (c : Float) (r t : RealMultiplied) → RealMultiplies s ks c oxs ozs r xs zs → RealMultiplies s ks c oxs ozs t xs' zs' → (r ≡ t) × (xs ≡ xs') × (zs ≡ zs')
-  real_outcome c r t a b = (real_injective r t (one_outcome a.answer b.answer), one_outcome a.x_part_lem b.x_part_lem, one_outcome a.z_part_lem b.z_part_lem)
+  real_outcome c r t a b = (real_injective r t (one_outcome a.answer b.answer), one_outcome a.x_part b.x_part, one_outcome a.z_part b.z_part)

@@ -34,18 +34,18 @@ two_bits = refl
 -- rows 0 then 1: p 1, ZI, so coefficient 2 is imaginary 2; the word past the first stays
 pub jordan_wigner_01 : RealMultiplies jordan_wigner (0 ∷ 1 ∷ []) two (7 ∷ 8 ∷ []) (9 ∷ []) (RealDone (record { power = 1 }) (Imag two)) (0 ∷ 8 ∷ []) (0b01 ∷ [])
 unfolding product_of product_size product_short some_high product_bad product_refused bad_size bad_rows bad_row_at some_below strays common ones ones_in letter_power
-jordan_wigner_01 = record { answer = refl; x_part_lem = refl; z_part_lem = refl }
+jordan_wigner_01 = record { answer = refl; x_part = refl; z_part = refl }
 
 -- rows 1 then 0: p 3, ZI, so it is imaginary -2
 pub jordan_wigner_10 : RealMultiplies jordan_wigner (1 ∷ 0 ∷ []) two (7 ∷ 8 ∷ []) (9 ∷ []) (RealDone (record { power = 3 }) (Imag (neg two))) (0 ∷ 8 ∷ []) (0b01 ∷ [])
 unfolding product_of product_size product_short some_high product_bad product_refused bad_size bad_rows bad_row_at some_below strays common ones ones_in letter_power
-jordan_wigner_10 = record { answer = refl; x_part_lem = refl; z_part_lem = refl }
+jordan_wigner_10 = record { answer = refl; x_part = refl; z_part = refl }
 
 -- the same with the complex coefficient 2: power 3 takes (2, 0) to (0, -2)
 pub jordan_wigner_complex : Multiplies jordan_wigner (1 ∷ 0 ∷ []) (record { re = two; im = fin false 0 (pos 0) }) (7 ∷ 8 ∷ []) (9 ∷ [])
     (Done (record { power = 3 }) (record { re = fin false 0 (pos 0); im = neg two })) (0 ∷ 8 ∷ []) (0b01 ∷ [])
 unfolding product_of product_size product_short some_high product_bad product_refused bad_size bad_rows bad_row_at some_below strays common ones ones_in letter_power neg
-jordan_wigner_complex = record { answer = refl; x_part_lem = refl; z_part_lem = refl }
+jordan_wigner_complex = record { answer = refl; x_part = refl; z_part = refl }
 
 -- what is left stands for i^3 ZI, on two columns
 jordan_wigner_whole : Whole 2 (product jordan_wigner (1 ∷ 0 ∷ [])) (record { p = 3; xs = 0 ∷ 8 ∷ []; zs = 0b01 ∷ [] })
@@ -58,7 +58,7 @@ jordan_wigner_stands = (real_stands jordan_wigner (1 ∷ 0 ∷ []) (7 ∷ 8 ∷ 
 -- no rows: the identity, phase 0, and the coefficient as it was
 pub empty_product : RealMultiplies jordan_wigner [] two (7 ∷ []) (9 ∷ []) (RealDone (record { power = 0 }) (Real two)) (0 ∷ []) (0 ∷ [])
 unfolding product_of product_size product_short some_high product_bad product_refused bad_size bad_rows bad_row_at some_below strays common ones ones_in letter_power
-empty_product = record { answer = refl; x_part_lem = refl; z_part_lem = refl }
+empty_product = record { answer = refl; x_part = refl; z_part = refl }
 
 -- ---- refusals
 

@@ -86,12 +86,12 @@ module _ (s : Set) (ks : List ℕ) (oxs ozs : List ℕ) where
   pub product_whole : (c d : Coefficient) (f : Phase) (xs zs : List ℕ) → Multiplies s ks c oxs ozs (Done f d) xs zs
       → Whole s.q (product s ks) (record { p = f.power; xs = xs; zs = zs })
   product_whole c d f xs zs h =
-      left_whole s ks _ oxs ozs (sym (ap (λ (t : Told). t.told) h.answer)) f.power xs zs (ap (λ (t : Told). t.phase) h.answer) h.x_part_lem h.z_part_lem
+      left_whole s ks _ oxs ozs (sym (ap (λ (t : Told). t.told) h.answer)) f.power xs zs (ap (λ (t : Told). t.phase) h.answer) h.x_part h.z_part
 
   pub real_whole : (c : Float) (d : Marked) (f : Phase) (xs zs : List ℕ) → RealMultiplies s ks c oxs ozs (RealDone f d) xs zs
       → Whole s.q (product s ks) (record { p = f.power; xs = xs; zs = zs })
   real_whole c d f xs zs h =
-      left_whole s ks _ oxs ozs (sym (ap (λ (t : RealTold). t.told) h.answer)) f.power xs zs (ap (λ (t : RealTold). t.phase) h.answer) h.x_part_lem h.z_part_lem
+      left_whole s ks _ oxs ozs (sym (ap (λ (t : RealTold). t.told) h.answer)) f.power xs zs (ap (λ (t : RealTold). t.phase) h.answer) h.x_part h.z_part
 
   -- ---- a real coefficient as a complex one
 
@@ -119,6 +119,6 @@ module _ (s : Set) (ks : List ℕ) (oxs ozs : List ℕ) where
             phase = ap (λ (u : RealTold). u.phase) a.answer ∙ ap (λ (p : Paper). on_done p (product s ks).p 0) e ∙ sym (ap (λ (u : Told). u.phase) b.answer);
             coefficient = rw (ap (λ (u : RealTold). u.coefficient) a.answer, ap (λ (u : Told). u.coefficient) b.answer, e) c;
           },
-          a.x_part_lem ∙ ap (λ (p : Paper). part_left p s (product s ks).x oxs) e ∙ sym b.x_part_lem,
-          a.z_part_lem ∙ ap (λ (p : Paper). part_left p s (product s ks).z ozs) e ∙ sym b.z_part_lem,
+          a.x_part ∙ ap (λ (p : Paper). part_left p s (product s ks).x oxs) e ∙ sym b.x_part,
+          a.z_part ∙ ap (λ (p : Paper). part_left p s (product s ks).z ozs) e ∙ sym b.z_part,
         )

@@ -28,8 +28,8 @@ made_paper (MadeRefused r) = record { told = paper r; phase = 0; letters = 0 }
 -- once no test refuses
 pub record Makes (w : ℕ) (row : Row) (oxs ozs : List ℕ) (r : Made) (xs zs : List ℕ) : Type 0 where
   pub answer : made_paper r ≡ record { told = bare 0; phase = row.p; letters = row_power row }
-  pub x_part_lem : xs ≡ filled w row.x oxs
-  pub z_part_lem : zs ≡ filled w row.z ozs
+  pub x_part : xs ≡ filled w row.x oxs
+  pub z_part : zs ≡ filled w row.z ozs
 
 -- the call, whose coefficient is finite or not
 pub record MakesOrRefuses (s : Set) (ks : List ℕ) (finite : Bool) (oxs ozs : List ℕ) (r : Made) (xs zs : List ℕ) : Type 0 where
@@ -38,5 +38,5 @@ pub record MakesOrRefuses (s : Set) (ks : List ℕ) (finite : Bool) (oxs ozs : L
     phase = on_done (product_refused s ks finite oxs ozs) (product s ks).p 0;
     letters = on_done (product_refused s ks finite oxs ozs) (row_power (product s ks)) 0;
   }
-  pub x_part_lem : xs ≡ part_left (product_refused s ks finite oxs ozs) s (product s ks).x oxs
-  pub z_part_lem : zs ≡ part_left (product_refused s ks finite oxs ozs) s (product s ks).z ozs
+  pub x_part : xs ≡ part_left (product_refused s ks finite oxs ozs) s (product s ks).x oxs
+  pub z_part : zs ≡ part_left (product_refused s ks finite oxs ozs) s (product s ks).z ozs

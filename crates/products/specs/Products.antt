@@ -85,8 +85,8 @@ pub record Multiplies (s : Set) (ks : List ℕ) (c : Coefficient) (oxs ozs : Lis
     phase = on_done (complex_refused s ks c oxs ozs) (product s ks).p 0;
     coefficient = on_done (complex_refused s ks c oxs ozs) (turned (row_power (product s ks)) c) zero_coefficient;
   }
-  pub x_part_lem : xs ≡ part_left (complex_refused s ks c oxs ozs) s (product s ks).x oxs
-  pub z_part_lem : zs ≡ part_left (complex_refused s ks c oxs ozs) s (product s ks).z ozs
+  pub x_part : xs ≡ part_left (complex_refused s ks c oxs ozs) s (product s ks).x oxs
+  pub z_part : zs ≡ part_left (complex_refused s ks c oxs ozs) s (product s ks).z ozs
 
 -- ---- with a real coefficient, which comes back marked
 
@@ -109,8 +109,8 @@ pub record RealMultiplies (s : Set) (ks : List ℕ) (c : Float) (oxs ozs : List 
     phase = on_done (real_refused s ks c oxs ozs) (product s ks).p 0;
     coefficient = on_done (real_refused s ks c oxs ozs) (marked (row_power (product s ks)) c) (Real zero_float);
   }
-  pub x_part_lem : xs ≡ part_left (real_refused s ks c oxs ozs) s (product s ks).x oxs
-  pub z_part_lem : zs ≡ part_left (real_refused s ks c oxs ozs) s (product s ks).z ozs
+  pub x_part : xs ≡ part_left (real_refused s ks c oxs ozs) s (product s ks).x oxs
+  pub z_part : zs ≡ part_left (real_refused s ks c oxs ozs) s (product s ks).z ozs
 
 -- ---- the two calls on one input
 

@@ -85,7 +85,7 @@ module _ (i : Input) (clear : value i.out.vs ≡ 0) {r : Answer} {xs zs ps vs ro
   row_read : (answer i).number ≡ 0 → (k : ℕ) → k < 2 * i.n → row_in i.q xs zs ps k ≡ m.row k
   row_read h k l =
       let stored = flatpack_stored i r xs zs ps vs room b (done_of r (ap (λ (p : Paper). p.number) b.told ∙ h)) in
-      row_is (stored.x_part_lem k l) (stored.z_part_lem k l) (stored.phase k l)
+      row_is (stored.x_part k l) (stored.z_part k l) (stored.phase k l)
     where
       row_is : {p x z : ℕ} {o : Row} → x ≡ o.x → z ≡ o.z → p ≡ o.p → ◌≡◌ {A = Row} (record { p = p; x = x; z = z }) o
       row_is px pz pp = rw (px, pz, pp)

@@ -192,13 +192,13 @@ small_cases =
     and record { answer = refl; string = refl; work = refl }
     and record { answer = refl; list = refl }
     and record { answer = refl; list = refl }
-    and record { answer = refl; x_part_lem = refl; z_part_lem = refl }
-    and record { answer = refl; x_part_lem = refl; z_part_lem = refl }
-    and record { answer = refl; x_part_lem = refl; z_part_lem = refl }
-    and record { answer = refl; x_part_lem = refl; z_part_lem = refl }
-    and record { answer = refl; x_part_lem = refl; z_part_lem = refl }
-    and record { answer = refl; x_part_lem = refl; z_part_lem = refl }
-    and record { answer = refl; x_part_lem = refl; z_part_lem = refl }
-    and record { answer = refl; x_part_lem = refl; z_part_lem = refl }
+    and record { answer = refl; x_part = refl; z_part = refl }
+    and record { answer = refl; x_part = refl; z_part = refl }
+    and record { answer = refl; x_part = refl; z_part = refl }
+    and record { answer = refl; x_part = refl; z_part = refl }
+    and record { answer = refl; x_part = refl; z_part = refl }
+    and record { answer = refl; x_part = refl; z_part = refl }
+    and record { answer = refl; x_part = refl; z_part = refl }
+    and record { answer = refl; x_part = refl; z_part = refl }
     and record { told = refl; x_parts = refl; z_parts = refl; phases = refl }
     and tt

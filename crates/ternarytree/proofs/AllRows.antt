@@ -29,9 +29,9 @@ pub rows_step : (t : Tree) (slot : ℕ → ℕ) (m w c k p : ℕ) (xs zs ps xs' 
 rows_step t slot m w c k p xs zs ps xs' zs' ps' nx nz r ec ek hx hz hp row = record {
   x_parts =
       laid_step w (λ m. (row_at t (slot m)).x) m k xs' xs nx r.x_parts
-      (row.x_part_lem ∙ ap (λ (n : ℕ). words_of n (row_at t c).x) (length_part (m * w) w k xs' hx ek) ∙ ap (λ (n : ℕ). words_of w (row_at t n).x) ec) ek;
+      (row.x_part ∙ ap (λ (n : ℕ). words_of n (row_at t c).x) (length_part (m * w) w k xs' hx ek) ∙ ap (λ (n : ℕ). words_of w (row_at t n).x) ec) ek;
   z_parts =
       laid_step w (λ m. (row_at t (slot m)).z) m k zs' zs nz r.z_parts
-      (row.z_part_lem ∙ ap (λ (n : ℕ). words_of n (row_at t c).z) (length_part (m * w) w k zs' hz ek) ∙ ap (λ (n : ℕ). words_of w (row_at t n).z) ec) ek;
+      (row.z_part ∙ ap (λ (n : ℕ). words_of n (row_at t c).z) (length_part (m * w) w k zs' hz ek) ∙ ap (λ (n : ℕ). words_of w (row_at t n).z) ec) ek;
   phases = listed_step (λ m. (row_at t (slot m)).p) m ps' ps hp r.phases (row.phase ∙ ap (λ (n : ℕ). (row_at t n).p) ec);
 }

@@ -54,7 +54,7 @@ module _ (leaves : Bool) (t : Tree) (n w : ℕ) (parents columns slots : List �
     pub stored : StoredX (rows leaves t) n w xs' qs'
     stored = record {
       size = ok.qubits.size;
-      x_part_lem = λ m h. rw written.x_parts (row_laid w (λ m. (row_at t (slot_of leaves t m)).x) (2 * n) m xs h (row_low m h).x_low);
+      x_part = λ m h. rw written.x_parts (row_laid w (λ m. (row_at t (slot_of leaves t m)).x) (2 * n) m xs h (row_low m h).x_low);
       phase = phase_at;
     }
 

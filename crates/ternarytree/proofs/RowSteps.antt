@@ -24,8 +24,8 @@ row_up t f i l = join (letter_at l (2 ^ t.qubit i)) (above t f i)
 -- what is written to vx and vz with phase p, and the row r that is still to be written, make the row of slot k
 pub record Left (t : Tree) (k vx vz p : ℕ) (xs zs : List ℕ) (r : Row) : Type 0 where
   pub phase : (row_at t k).p ≡ (p + r.p) % 4
-  pub x_part_lem : bit_xor vx (row_at t k).x ≡ bit_xor (value xs) r.x
-  pub z_part_lem : bit_xor vz (row_at t k).z ≡ bit_xor (value zs) r.z
+  pub x_part : bit_xor vx (row_at t k).x ≡ bit_xor (value xs) r.x
+  pub z_part : bit_xor vz (row_at t k).z ≡ bit_xor (value zs) r.z
 
 -- ---- letters
 
@@ -57,7 +57,7 @@ add_turns p a b = omega arith
 module _ (t : Tree) (k vx vz : ℕ) where
   pub left_start : (f : ℕ) (xs zs : List ℕ) → t.n ≡ f → value xs ≡ vx → value zs ≡ vz → Left t k vx vz 0 xs zs (row_up t f (k / 3) (k % 3))
   unfolding row_up row_at letter
-  left_start f xs zs e ex ez = rw (← e) (record { phase = omega arith; x_part_lem = rw ex; z_part_lem = rw ez })
+  left_start f xs zs e ex ez = rw (← e) (record { phase = omega arith; x_part = rw ex; z_part = rw ez })
 
   -- letter l of node i is written
   pub left_letter : (i l f p y q : ℕ) (xs zs xs' zs' : List ℕ) → Left t k vx vz p xs zs (row_up t f i l) → t.qubit i ≡ q → y ≡ (letter_at l 0).p
@@ -67,16 +67,16 @@ module _ (t : Tree) (k vx vz : ℕ) where
   unfolding row_up
   left_letter i l f p y q xs zs xs' zs' r eq ey hx hz wx wz ex ez = record {
     phase = r.phase ∙ rw (ey, letter_p l (2 ^ t.qubit i)) (add_turns p (letter_at l (2 ^ t.qubit i)).p (above t f i).p);
-    x_part_lem = r.x_part_lem ∙ rw (ex, put_x l q xs hx wx, eq) (sym (xor_assoc (value xs) (letter_at l (2 ^ q)).x (above t f i).x));
-    z_part_lem = r.z_part_lem ∙ rw (ez, put_z l q zs hz wz, eq) (sym (xor_assoc (value zs) (letter_at l (2 ^ q)).z (above t f i).z));
+    x_part = r.x_part ∙ rw (ex, put_x l q xs hx wx, eq) (sym (xor_assoc (value xs) (letter_at l (2 ^ q)).x (above t f i).x));
+    z_part = r.z_part ∙ rw (ez, put_z l q zs hz wz, eq) (sym (xor_assoc (value zs) (letter_at l (2 ^ q)).z (above t f i).z));
   }
 
   -- nothing is left to write
   pub left_none : (p : ℕ) (xs zs xs' zs' : List ℕ) (r : Row) → vx ≡ value xs → vz ≡ value zs → r ≡ identity → p < 4 → Left t k vx vz p xs' zs' r → Added t k p xs zs xs' zs'
   left_none p xs zs xs' zs' r ex ez e h l = record {
     phase = sym (l.phase ∙ rw e (omega arith));
-    x_part_lem = sym (rw (← ex) (l.x_part_lem ∙ rw e (xor_zero_r (value xs'))));
-    z_part_lem = sym (rw (← ez) (l.z_part_lem ∙ rw e (xor_zero_r (value zs'))));
+    x_part = sym (rw (← ex) (l.x_part ∙ rw e (xor_zero_r (value xs'))));
+    z_part = sym (rw (← ez) (l.z_part ∙ rw e (xor_zero_r (value zs'))));
   }
 
   pub left_step : (p : ℕ) (xs zs : List ℕ) (r r' : Row) → r ≡ r' → Left t k vx vz p xs zs r → Left t k vx vz p xs zs r'

@@ -219,14 +219,14 @@ pub named_finished : (tree : Named) (n : ℕ) → Finished (rows false (named_tr
 named_finished tree n = finished false (named_tree tree n) n (named_closed tree n) (λ i h. h) (named_none tree n)
 
 pub record Stores (w : ℕ) (m : Modes) (xs zs ps : List ℕ) : Type 0 where
-  pub x_part_lem : (k : ℕ) → k < 2 * m.n → value (term_of w xs k) ≡ (m.row k).x
-  pub z_part_lem : (k : ℕ) → k < 2 * m.n → value (term_of w zs k) ≡ (m.row k).z
+  pub x_part : (k : ℕ) → k < 2 * m.n → value (term_of w xs k) ≡ (m.row k).x
+  pub z_part : (k : ℕ) → k < 2 * m.n → value (term_of w zs k) ≡ (m.row k).z
   pub phase : (k : ℕ) → k < 2 * m.n → get_or ps k 0 ≡ (m.row k).p
 
 written : (q : ℕ) (m : Modes) (o : Outputs) (r : Answer) (xs zs ps vs room : List ℕ) → Finished m q → Built (bare 0) (words_for q) m o r xs zs ps vs room → Stores (words_for q) m xs zs ps
 written q m o r xs zs ps vs room f b = record {
-  x_part_lem = λ k h. rw b.x_parts (row_laid (words_for q) (λ k. (m.row k).x) (2 * m.n) k o.xs h (lt_of_lt_of_le (f.within k h).x_low (pow_mono (words_hold q))));
-  z_part_lem = λ k h. rw b.z_parts (row_laid (words_for q) (λ k. (m.row k).z) (2 * m.n) k o.zs h (lt_of_lt_of_le (f.within k h).z_low (pow_mono (words_hold q))));
+  x_part = λ k h. rw b.x_parts (row_laid (words_for q) (λ k. (m.row k).x) (2 * m.n) k o.xs h (lt_of_lt_of_le (f.within k h).x_low (pow_mono (words_hold q))));
+  z_part = λ k h. rw b.z_parts (row_laid (words_for q) (λ k. (m.row k).z) (2 * m.n) k o.zs h (lt_of_lt_of_le (f.within k h).z_low (pow_mono (words_hold q))));
   phase = λ k h. rw b.phases (number_listed (λ k. (m.row k).p) (2 * m.n) k (drop (2 * m.n) o.ps) h);
 }
 

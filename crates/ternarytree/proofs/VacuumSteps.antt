@@ -68,7 +68,7 @@ module _ (m : Modes) (n w : ℕ) (xs ps : List ℕ) (s : StoredX m n w xs ps) (f
       alike_value (term_of w xs (2 * i)) (term_of w xs (2 * i + 1))
       (length_term w xs (2 * i) (row_within (2 * i) (2 * n) w (length xs) low fits) ∙ sym (length_term w xs (2 * i + 1) (row_within (2 * i + 1) (2 * n) w (length xs) next fits)))
       (words_term w xs (2 * i) words) (words_term w xs (2 * i + 1) words)
-      ∙ ap₂ eqb (s.x_part_lem (2 * i) low) (s.x_part_lem (2 * i + 1) next)
+      ∙ ap₂ eqb (s.x_part (2 * i) low) (s.x_part (2 * i + 1) next)
 
   pub mode_differs : alike (term_of w xs (2 * i)) (term_of w xs (2 * i + 1)) ≡ false → false ≡ vacuum_rule m 0
   mode_differs f = rule_fails m i (omega (arith, s.size)) (x_differs m i (eqb-false _ _ (sym parts ∙ f)))

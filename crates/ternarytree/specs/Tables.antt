@@ -121,14 +121,14 @@ Fits n columns ws = (i : ℕ) → i < n → nth columns i / 64 < length ws
 -- the row of slot k is added to two parts, and p is its phase
 pub record Added (t : Tree) (k p : ℕ) (xs zs xs' zs' : List ℕ) : Type 0 where
   pub phase : p ≡ (row_at t k).p
-  pub x_part_lem : value xs' ≡ bit_xor (value xs) (row_at t k).x
-  pub z_part_lem : value zs' ≡ bit_xor (value zs) (row_at t k).z
+  pub x_part : value xs' ≡ bit_xor (value xs) (row_at t k).x
+  pub z_part : value zs' ≡ bit_xor (value zs) (row_at t k).z
 
 -- the row of slot k is written to two parts, and p is its phase
 pub record RowWritten (t : Tree) (k p : ℕ) (xs zs xs' zs' : List ℕ) : Type 0 where
   pub phase : p ≡ (row_at t k).p
-  pub x_part_lem : xs' ≡ words_of (length xs) (row_at t k).x
-  pub z_part_lem : zs' ≡ words_of (length zs) (row_at t k).z
+  pub x_part : xs' ≡ words_of (length xs) (row_at t k).x
+  pub z_part : zs' ≡ words_of (length zs) (row_at t k).z
 
 -- the rows of n leaves, in the slots that `slot` tells, are laid in two slices and their phases listed in a third
 pub record RowsWritten (t : Tree) (slot : ℕ → ℕ) (n w : ℕ) (xs zs ps xs' zs' ps' : List ℕ) : Type 0 where
@@ -139,7 +139,7 @@ pub record RowsWritten (t : Tree) (slot : ℕ → ℕ) (n w : ℕ) (xs zs ps xs'
 -- the X parts and phases of the rows m, as they are stored
 pub record StoredX (m : Modes) (n w : ℕ) (xs ps : List ℕ) : Type 0 where
   pub size : m.n ≡ n
-  pub x_part_lem : (k : ℕ) → k < 2 * n → value (term_of w xs k) ≡ (m.row k).x
+  pub x_part : (k : ℕ) → k < 2 * n → value (term_of w xs k) ≡ (m.row k).x
   pub phase : (k : ℕ) → k < 2 * n → nth ps k ≡ (m.row k).p
 
 -- the tables of a tree of n nodes

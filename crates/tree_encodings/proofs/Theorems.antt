@@ -104,7 +104,7 @@ module _ {m : Modes} {q : ℕ} {o : tree.Outputs} {r : Answer} {xs zs ps vs room
 
   -- its rows below 2n are those of m
   row_same : (k : ℕ) → k < 2 * m.n → (modes kept).row k ≡ m.row k
-  row_same k h = rw (g.stored.phase k h, g.stored.x_part_lem k h, g.stored.z_part_lem k h)
+  row_same k h = rw (g.stored.phase k h, g.stored.x_part k h, g.stored.z_part k h)
 
   row_good : (k : ℕ) → k < 2 * m.n → bad_row_at q (words_for q) xs zs ps k ≡ false
   unfolding bad_row_at
@@ -113,8 +113,8 @@ module _ {m : Modes} {q : ℕ} {o : tree.Outputs} {r : Answer} {xs zs ps vs room
       rw (
         g.stored.phase k h,
         le-ltb 3 (m.row k).p (omega (arith, w.p_low)),
-        no_strays (term_of (words_for q) xs k) q (rw (g.stored.x_part_lem k h) w.x_low),
-        no_strays (term_of (words_for q) zs k) q (rw (g.stored.z_part_lem k h) w.z_low),
+        no_strays (term_of (words_for q) xs k) q (rw (g.stored.x_part k h) w.x_low),
+        no_strays (term_of (words_for q) zs k) q (rw (g.stored.z_part k h) w.z_low),
       )
 
   vacuum_zero : bits q vs ≡ 0

@@ -13,6 +13,6 @@ returns c =
     let w = y.ensures t p q in
     record {
       phase = w.phase;
-      x_part_lem = words_are _ _ c.args.x.now _ c.clear.ensures (y.auto.x ∙ c.clear.auto.s) (λ i. (c.type_inv.x i).fits) w.x_part_lem;
-      z_part_lem = words_are _ _ c.args.z.now _ c.clear-2.ensures (y.auto.z ∙ c.clear-2.auto.s) (λ i. (c.type_inv.z i).fits) w.z_part_lem;
+      x_part = words_are _ _ c.args.x.now _ c.clear.ensures (y.auto.x ∙ c.clear.auto.s) (λ i. (c.type_inv.x i).fits) w.x_part;
+      z_part = words_are _ _ c.args.z.now _ c.clear-2.ensures (y.auto.z ∙ c.clear-2.auto.s) (λ i. (c.type_inv.z i).fits) w.z_part;
     }
