@@ -1,4 +1,4 @@
--- Flags of bytes: one more, and that no slot of a flatpack is lost. Of n entries, at most 256, the flags are too few exactly if the bytes are (`flags-short`), and flag k is
+-- Flags of bytes: one more, and that no slot of a flatpack is lost. Of n entries, at most 256, the flags are too few exactly if the bytes are (`flags_short`), and flag k is
 -- byte k's for each of the 3n slots (`flag_at`).
 use Prim.Native.Nat.{ℕ, ◌+◌, ◌*◌, ◌≤◌, ◌<◌, min}
 use native.Mathlib.Numerals.{add-one}

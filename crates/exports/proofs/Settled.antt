@@ -1,5 +1,5 @@
 -- Each exported call has one outcome: two structs that meet its contract on the same input, with all that the slices lent for writing hold at exit, are equal. Each law is the
--- outcome law of the call behind, carried over by `tells-one`; of a tree's number it is taken where the number names a tree, and the refusal of another number settles the rest.
+-- outcome law of the call behind, carried over by `tells_one`; of a tree's number it is taken where the number names a tree, and the refusal of another number settles the rest.
 use Prim.Native.Nat.{ℕ, ◌≤◌}
 use native.Mathlib.Decide.{dec_le}
 use native.Mathlib.Omega.{arith}

@@ -1,5 +1,5 @@
 -- `multiply` on small inputs, by computing its definition: products of rows that commute and that do not, and one input for each refusal and for each two that stand next to
--- each other. In column 255 the common ones are known by `dot-pow`.
+-- each other. In column 255 the common ones are known by `dot_pow`.
 use Prim.Native.Nat.{ℕ, ◌+◌, ◌%◌, ◌^◌}
 use mathlib.Core.Path.{◌≡◌, refl, sym, ap, ap₂, ◌∙◌}
 use mathlib.Core.List.{[], ◌∷◌}

@@ -1,5 +1,5 @@
 -- The small cases worked by hand, as one statement over a list: each outcome meets the contract of its call, by computing the definitions that the contract cites. A contract
--- leaves one outcome, so the call has this one. The report is that of the definition, which `program-answers` (crate `rowreport_core`) ties to the program's calls.
+-- leaves one outcome, so the call has this one. The report is that of the definition, which `program_answers` (crate `rowreport_core`) ties to the program's calls.
 use Prim.Native.Nat.{ℕ, suc}
 use mathlib.Core.Path.{◌≡◌, refl}
 use mathlib.Core.List.{List, [], ◌∷◌, ◌++◌}
