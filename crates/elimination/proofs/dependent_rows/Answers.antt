@@ -3,6 +3,7 @@ use native.Mathlib.Omega.{arith}
 use mathlib.Core.Path.{◌≡◌, sym, ◌∙◌}
 use mathlib.Core.Bool.{true}
 use lib.ListN.{length}
+use borrow.Author.Rules.{rules}
 use Rattle.elimination.specs.Rooms.{fits}
 use Rattle.elimination.proofs.Answers.{Fitting, fitting, dependent_refused, dependent_done}
 use Rattle.elimination.proofs.dependent_rows.Goals as goal
@@ -40,5 +41,5 @@ returns c =
     let a = c.args in
     let done = c.eliminate in
     dependent_done a.rows a.width a.room.now done.new.room c.clear.new.s c.some_zero-dependent.result
-    passed (λ i. (c.slice_known-2-1.given i).fits) done.ensures.0 done.ensures.1
+    passed (search rules) done.ensures.0 done.ensures.1
     c.some_zero-dependent.ensures c.clear.ensures

@@ -3,6 +3,7 @@ use Prim.Native.Nat.{◌*◌}
 use native.Mathlib.Omega.{arith}
 use mathlib.Core.Path.{◌≡◌, ap, ◌∙◌}
 use lib.ListN.{length}
+use borrow.Author.Rules.{rules}
 use Rattle.dense_block.proofs.Terms.{length_term}
 use Rattle.elimination.specs.Eliminated.{Lowest}
 use Rattle.elimination.specs.Rooms.{row_at}
@@ -21,7 +22,7 @@ row_length c =
 pub loop-s-init : goal.loop-s-init
 loop-s-init c =
     let a = c.args in
-    (omega arith, eliminating_start (64 * a.words) a.rows a.width a.room.now (λ i. (c.slice_known-1.given i).fits))
+    (omega arith, eliminating_start (64 * a.words) a.rows a.width a.room.now (λ i. (c.type_inv.room i).fits))
 
 pub row-requires : goal.row-requires
 row-requires c =
@@ -42,7 +43,7 @@ loop-s-preserved c =
       elim c.if-p-words.branch [
         | then-p-words w ↦ rw w.room-is
             (eliminating_sweep (64 * a.words) a.rows a.width a.room.now l.s l.room l.invariant.1 c.lowest-p.result found w.sweep.new.room
-            (omega arith) w.if-p-words.true (λ i. (w.slice_known-then-p-words-1.given i).fits) w.sweep.ensures.0 w.sweep.ensures.1)
+            (omega arith) w.if-p-words.true (search rules) w.sweep.ensures.0 w.sweep.ensures.1)
         | else-p-words w ↦ rw w.room-is
             (eliminating_none (64 * a.words) a.rows a.width a.room.now l.s l.room l.invariant.1 c.lowest-p.result found w.if-p-words.false)
       ],

@@ -23,7 +23,7 @@ pub returns-then-x-ne0 : goal.returns-then-x-ne0
 returns-then-x-ne0 c =
     let l = c.loop-i in
     let a = c.args in
-    lowest_here a.s.now (λ k. (c.shared_slice_known-1.given k).fits) l.i l.invariant.1 a.n (omega arith) c.if-x-ne0.true
+    lowest_here a.s.now (λ k. (c.type_inv.s k).fits) l.i l.invariant.1 a.n (omega arith) c.if-x-ne0.true
 
 pub loop-i-preserved : goal.loop-i-preserved
 loop-i-preserved c = (omega arith, below_more _ _ c.loop-i.invariant.1 (omega (arith, c.if-x-ne0.false)))

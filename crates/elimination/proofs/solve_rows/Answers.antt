@@ -5,6 +5,7 @@ use mathlib.Core.Path.{◌≡◌, refl, sym, ◌∙◌}
 use mathlib.Core.Bool.{true}
 use lib.ListN.{length}
 use lib.Seq.{length-take-le}
+use borrow.Author.Rules.{rules}
 use Rattle.elimination.specs.Rooms.{fits}
 use Rattle.elimination.proofs.Answers.{Fitting, fitting, solve_wide, solve_room_lem, solve_string, solve_none, solve_found}
 use Rattle.elimination.proofs.solve_rows.Goals as goal
@@ -58,9 +59,9 @@ returns-then-found c =
     let sub = c.substitute-found in
     let cleared = c.clear in
     solve_found a.rows a.width a.room.now a.v.now done.new.room sub.new.u passed c.if-v-width.false
-    (λ i. (c.slice_known-1.given i).fits) done.ensures.0 done.ensures.1
+    (search rules) done.ensures.0 done.ensures.1
     sub.result cleared.new.s c.copy.new.dst c.if-found.true sub.ensures.0 cleared.ensures sub.ensures.1
-    (omega (arith, c.u-2-1.given)) c.copy.ensures
+    (omega arith) c.copy.ensures
 
 pub returns-else-found : goal.returns-else-found
 returns-else-found c =
@@ -69,5 +70,5 @@ returns-else-found c =
     let done = c.eliminate in
     let sub = c.substitute-found in
     solve_none a.rows a.width a.room.now a.v.now done.new.room sub.new.u passed c.if-v-width.false
-    (λ i. (c.slice_known-1.given i).fits) done.ensures.0 done.ensures.1
+    (search rules) done.ensures.0 done.ensures.1
     sub.result c.clear.new.s c.if-found.false sub.ensures.0 c.clear.ensures

@@ -3,6 +3,7 @@ use Prim.Native.Nat.{◌+◌, ◌-◌, ◌*◌, ◌≤◌, ◌<◌}
 use native.Mathlib.Omega.{arith}
 use mathlib.Core.Path.{◌≡◌, sym, ap, ◌∙◌}
 use lib.ListN.{length}
+use borrow.Author.Rules.{rules}
 use Rattle.dense_block.proofs.Terms.{row_within, length_term}
 use Rattle.elimination.proofs.BackLaws.{length_put, substituting_start, substituting_end, substituting_even, substituting_set, substituting_unmet}
 use Rattle.elimination.proofs.substitute.Goals as goal
@@ -11,7 +12,7 @@ pub loop-k-init : goal.loop-k-init
 loop-k-init c =
     let a = c.args in
     substituting_start a.rows a.width a.room.now c.set_index.new.s a.u.now c.requires.3 c.requires.1
-    (λ i. (c.slice_known-1.given i).fits) c.set_index.ensures (λ i. (c.slice_known-2-1.given i).fits)
+    (search rules) c.set_index.ensures (λ i. (c.type_inv.u i).fits)
 
 pub row-t-requires : goal.row-t-requires
 row-t-requires c =
@@ -47,7 +48,7 @@ loop-k-preserved-then-parity_and c =
     substituting_set a.rows a.width a.room.now _ c.loop-k.k c.loop-k.u c.loop-k.invariant (omega arith) _ row.ensures
     (sym c.parity_and.ensures ∙ c.if-parity_and.true) c.lowest-p.result c.lowest-p.ensures
     c.set_index-then-parity_and.new.s c.if-p-width.false (c.requires.4 (c.loop-k.k - 1) (omega (arith, c.loop-k.invariant.within)))
-    (omega (arith, first_length, c.requires.1)) c.set_index-then-parity_and.ensures (λ i. (c.slice_known-then-parity_and-1.given i).fits)
+    (omega (arith, first_length, c.requires.1)) c.set_index-then-parity_and.ensures (λ i. (c.type_inv.u i).fits)
 
 pub loop-k-preserved : goal.loop-k-preserved
 loop-k-preserved c =

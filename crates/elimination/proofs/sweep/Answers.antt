@@ -1,6 +1,7 @@
 -- `elimination::sweep` meets its contract: the rows passed are swept.
 use native.Mathlib.Omega.{arith}
 use mathlib.Core.Path.{sym, ◌∙◌}
+use borrow.Author.Rules.{rules}
 use Rattle.elimination.proofs.RoomLaws.{sweeping_start, sweeping_on, sweeping_off, sweeping_end, row_before, row_on, row_off}
 use Rattle.elimination.proofs.sweep.Goals as goal
 use Rattle.elimination.proofs.sweep.Goals.{then-get_index, else-get_index}
@@ -13,7 +14,7 @@ overflow_mul-a c =
 pub loop-r-init : goal.loop-r-init
 loop-r-init c =
     let a = c.args in
-    (omega arith, omega arith, sweeping_start a.rows a.width a.s a.p a.room.now (λ i. (c.slice_known-1.given i).fits))
+    (omega arith, omega arith, sweeping_start a.rows a.width a.s a.p a.room.now (λ i. (c.type_inv.room i).fits))
 
 pub row-requires : goal.row-requires
 row-requires c =
@@ -45,7 +46,7 @@ loop-r-preserved c =
         | then-get_index w ↦ rw w.room-is
             (sweeping_on a.rows a.width a.s a.p a.room.now l.r l.room l.invariant.2 w.add_row.new.room (omega arith) (omega arith) (omega arith)
             (row_on a.width l.room l.r _ row.ensures a.p (sym read ∙ w.if-get_index.true))
-            (λ i. (w.slice_known-then-get_index-1.given i).fits) w.add_row.ensures)
+            (search rules) w.add_row.ensures)
         | else-get_index w ↦ rw w.room-is
             (sweeping_off a.rows a.width a.s a.p a.room.now l.r l.room l.invariant.2 (omega arith)
             (row_off a.width l.room l.r _ row.ensures a.p (sym read ∙ w.if-get_index.false)))

@@ -1,0 +1,18 @@
+-- `factors::too_high` meets its contract: the numbers from the last, and what is left decides.
+use mathlib.Core.Path.{◌≡◌, refl, sym, ◌∙◌}
+use mathlib.Core.Bool.{Bool}
+use native.Mathlib.Omega.{arith}
+use Prim.Native.Nat.{ℕ, ◌≤◌}
+use borrow.Author.Tests.{le-leb, lt-leb}
+use lib.Dec.{leb}
+use lib.ListN.{length, get_or}
+use Rattle.refusal.specs.Search.{some_below}
+use Rattle.refusal.proofs.Searches.{some_here, some_below_lem, some_none}
+use Rattle.products.specs.Products.{some_high}
+use Rattle.products.proofs.factors.too_high.Given as goal
+
+abbrev pub invariant-loop-i : goal.invariant-loop-i
+invariant-loop-i l = (l.i ≤ length l.numbers) × (some_high l.rows l.numbers ≡ some_below l.i (λ k. leb l.rows (get_or l.numbers k 0)))
+
+abbrev pub decreases-loop-i : goal.decreases-loop-i
+decreases-loop-i l = l.i
