@@ -15,11 +15,11 @@ use Rattle.refusal.specs.declared.Refusal.TheVariants.{Commuting}
 use Rattle.refusal.specs.declared.Answer.TheVariants.{Done, Refused}
 use Rattle.refusal.specs.Numbers.{Paper, bare}
 use Rattle.refusal.specs.Search.{Pair}
-use Rattle.refusal.specs.Table.{◌gives◌, ◌names◌, first_of, ◌of◌, short}
+use Rattle.refusal.specs.Table.{◌gives◌, ◌names◌, first_of, ◌of◌, short, Rule}
 use Rattle.refusal.proofs.Bools.{or_left, or_right}
 use Rattle.refusal.proofs.Rooms.{long_enough}
 use Rattle.refusal.proofs.Searches.{some_at, none_at, none_of, all_at, all_of}
-use Rattle.algebra.specs.Modes.{Modes, lo, hi, e, d, paired, empty, vacuum_rule, Majorana, commuting_pair}
+use Rattle.algebra.specs.Modes.{lo, hi, empty, vacuum_rule, Majorana, commuting_pair}
 use Rattle.algebra.specs.Choices.{dependent}
 use Rattle.algebra.specs.Faithful.{Faithful}
 use Rattle.algebra.proofs.Duals.{empty_same}
@@ -189,9 +189,18 @@ module _ (s : Set) (vs ms : List ℕ) (old new : Outs) (h : Enumerated s vs ms o
 
 -- ---- refused by 10
 
+-- a rule that doesn't hold can be left out
+without_none : (size short bad : Bool) (rest : List Rule)
+    → first_of ((size gives 1) ∷ (short gives 2) ∷ (bad gives 17) ∷ rest) ≡ first_of ((size gives 1) ∷ (short gives 2) ∷ (bad gives 17) ∷ (false gives 12) ∷ rest)
+without_none true short bad rest = refl
+without_none false true bad rest = refl
+without_none false false true rest = refl
+without_none false false false rest = refl
+
 pub enumeration_pair : (i j : ℕ) (s : Set) (vs ms : List ℕ) (old new : Outs) → Enumerated s vs ms old (Refused (Commuting i j)) new → FirstCommuting (modes s) i j
 unfolding enumeration_checked
 enumeration_pair i j s vs ms old new h =
     let m = modes s in
     commuting_first m i j
-    (pair_named i j (bad_size s.n s.q) (enumeration_short s vs ms old) (enumeration_bad s vs ms) false (commuting_pair m) (dependent m) (vacuum_rule m (bits s.q vs)) h.answer)
+    (pair_named i j (bad_size s.n s.q) (enumeration_short s vs ms old) (enumeration_bad s vs ms) false (commuting_pair m) (dependent m) (vacuum_rule m (bits s.q vs))
+    (h.answer ∙ without_none (bad_size s.n s.q) (enumeration_short s vs ms old) (enumeration_bad s vs ms) _))

@@ -2,11 +2,10 @@
 use native.Mathlib.Omega.{arith}
 use mathlib.Core.Path.{◌≡◌, sym, ◌∙◌}
 use mathlib.Core.Bool.{false}
-use Rattle.majorana.specs.Sets.{Set, given, bad_size}
+use Rattle.majorana.specs.Sets.{given, bad_size}
 use Rattle.majorana.proofs.SetLaws.{in_size, few_words}
-use Rattle.enumeration.specs.Enumerations.{Outs, outs, enumeration_short}
+use Rattle.enumeration.specs.Enumerations.{outs, enumeration_short}
 use Rattle.enumeration.proofs.EnumerationAnswers.{enumerated_size, enumerated_short}
-use borrow.Author.Rules.{rules}
 use Rattle.enumeration.proofs.apply_mode_enumeration.Goals as goal
 use Rattle.enumeration.proofs.apply_mode_enumeration.Goals.{Else-bad_size}
 
@@ -14,7 +13,11 @@ size_passes : (c : Else-bad_size) → bad_size c.args.modes c.args.qubits ≡ fa
 size_passes c = sym c.bad_size.ensures ∙ c.if-bad_size.false
 
 pub returns-then-bad_size : goal.returns-then-bad_size
-returns-then-bad_size c = enumerated_size (let a = c.args in given a.modes a.qubits a.x.now a.z.now a.phases.now) c.args.vacuum.now c.args.map.now (let a = c.args in outs a.ox.now a.oz.now a.ophases.now a.ovacuum.now a.room.now) (sym c.bad_size.ensures ∙ c.if-bad_size.true)
+returns-then-bad_size c =
+    let a = c.args in
+    let s = given a.modes a.qubits a.x.now a.z.now a.phases.now in
+    let o = outs a.ox.now a.oz.now a.ophases.now a.ovacuum.now a.room.now in
+    enumerated_size s a.vacuum.now a.map.now o (sym c.bad_size.ensures ∙ c.if-bad_size.true)
 
 pub too_short-requires : goal.too_short-requires
 too_short-requires c =
@@ -23,8 +26,15 @@ too_short-requires c =
 
 pub returns-then-too_short : goal.returns-then-too_short
 unfolding enumeration_short
-returns-then-too_short c = enumerated_short (let a = c.args in given a.modes a.qubits a.x.now a.z.now a.phases.now) c.args.vacuum.now c.args.map.now (let a = c.args in outs a.ox.now a.oz.now a.ophases.now a.ovacuum.now a.room.now) (size_passes (goal.at.returns-then-too_short c).Else-bad_size) (rw c.words_for-w.ensures at (sym c.too_short.ensures ∙ c.if-too_short.true))
+returns-then-too_short c =
+    let a = c.args in
+    let s = given a.modes a.qubits a.x.now a.z.now a.phases.now in
+    let o = outs a.ox.now a.oz.now a.ophases.now a.ovacuum.now a.room.now in
+    enumerated_short s a.vacuum.now a.map.now o (size_passes (goal.at.returns-then-too_short c).Else-bad_size)
+    (rw c.words_for-w.ensures at (sym c.too_short.ensures ∙ c.if-too_short.true))
 
 pub enumerate-requires : goal.enumerate-requires
 unfolding enumeration_short
-enumerate-requires c = (c.words_for-w.ensures, record { size = size_passes (goal.at.enumerate-requires c).Else-bad_size; long = rw c.words_for-w.ensures at (sym c.too_short.ensures ∙ c.if-too_short.false) })
+enumerate-requires c =
+    let long = rw c.words_for-w.ensures at (sym c.too_short.ensures ∙ c.if-too_short.false) in
+    (c.words_for-w.ensures, record { size = size_passes (goal.at.enumerate-requires c).Else-bad_size; long = long })

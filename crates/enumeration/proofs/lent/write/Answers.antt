@@ -5,7 +5,6 @@ use mathlib.Core.List.{◌++◌}
 use lib.ListN.{take, drop}
 use lib.Seq.{length-take-le}
 use Rattle.enumeration.proofs.EnumerationAnswers.{front_copied}
-use borrow.Author.Rules.{rules}
 use Rattle.enumeration.proofs.lent.write.Goals as goal
 
 pub slice_bounds-copy-end-2 : goal.slice_bounds-copy-end-2

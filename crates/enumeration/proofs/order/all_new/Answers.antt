@@ -1,21 +1,15 @@
 -- `order::all_new` meets its contract: the numbers passed are new, each of them, and they are the marked columns.
-use Prim.Native.Nat.{◌-◌, ◌≤◌}
 use native.Mathlib.Omega.{arith}
 use mathlib.Core.Path.{◌≡◌, sym, ◌∙◌}
-use mathlib.Core.Bool.{true}
-use lib.ListN.{length, get_or}
-use Rattle.refusal.specs.Search.{all_below}
-use Rattle.dense_block.proofs.Values.{Words}
-use Rattle.enumeration.specs.Orders.{new_number}
-use Rattle.enumeration.proofs.OrderLaws.{number_high, number_again, number_new, no_permutation, passed_none, passed_one, passed_all, Marked, marked_none, marked_one}
-use borrow.Author.Rules.{rules}
+use lib.ListN.{get_or}
+use Rattle.enumeration.proofs.OrderLaws.{number_high, number_again, number_new, no_permutation, passed_none, passed_one, passed_all, marked_none, marked_one}
 use Rattle.enumeration.proofs.order.all_new.Goals as goal
 
 pub loop-i-init : goal.loop-i-init
 loop-i-init c =
     let a = c.args in
     let p = c.requires in
-    (omega arith, p.2, λ k. (c.slice_known-1.given k).fits, marked_none a.map.now a.met.now p.3, passed_none a.modes a.map.now)
+    (omega arith, p.2, λ k. (c.type_inv.met k).fits, marked_none a.map.now a.met.now p.3, passed_none a.modes a.map.now)
 
 pub returns-then-modes-k : goal.returns-then-modes-k
 returns-then-modes-k c =
@@ -37,8 +31,8 @@ loop-i-preserved c =
     let fresh = sym (l.invariant.3 (get_or a.map.now l.i 0)) ∙ sym c.get_index.ensures ∙ c.if-get_index.false in
     let put = c.set_index in (
       omega arith,
-      put.auto.0 ∙ l.invariant.1,
-      λ k. (c.slice_known-in-loop-i-1.given k).fits,
+      put.auto.s ∙ l.invariant.1,
+      λ k. (c.type_inv.met k).fits,
       rw put.ensures (marked_one a.map.now l.met l.i l.invariant.2 (omega arith) l.invariant.3),
       passed_one a.modes a.map.now l.i l.invariant.4 (number_new a.modes a.map.now l.i c.if-modes-k.false fresh),
     )

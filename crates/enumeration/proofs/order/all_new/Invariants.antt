@@ -1,13 +1,12 @@
 -- `order::all_new` meets its contract: the numbers passed are new, each of them, and they are the marked columns.
 use Prim.Native.Nat.{◌-◌, ◌≤◌}
-use native.Mathlib.Omega.{arith}
-use mathlib.Core.Path.{◌≡◌, sym, ◌∙◌}
+use mathlib.Core.Path.{◌≡◌}
 use mathlib.Core.Bool.{true}
-use lib.ListN.{length, get_or}
+use lib.ListN.{length}
 use Rattle.refusal.specs.Search.{all_below}
 use Rattle.dense_block.proofs.Values.{Words}
 use Rattle.enumeration.specs.Orders.{new_number}
-use Rattle.enumeration.proofs.OrderLaws.{number_high, number_again, number_new, no_permutation, passed_none, passed_one, passed_all, Marked, marked_none, marked_one}
+use Rattle.enumeration.proofs.OrderLaws.{Marked}
 use Rattle.enumeration.proofs.order.all_new.Given as goal
 
 abbrev pub invariant-loop-i : goal.invariant-loop-i

@@ -3,7 +3,6 @@ use Prim.Native.Nat.{◌*◌}
 use Rattle.dense_block.specs.Words.{term_of}
 use Rattle.dense_block.proofs.Terms.{length_term}
 use Rattle.enumeration.proofs.OrderLaws.{row_written}
-use borrow.Author.Rules.{rules}
 use Rattle.enumeration.proofs.order.copy_row.Goals as goal
 
 pub returns : goal.returns

@@ -1,14 +1,13 @@
 -- `order::enumerate_words` meets its contract: after k turns the first k rows are those of the new order, and the rest stays.
 use native.Mathlib.Omega.{arith}
-use Prim.Native.Nat.{ℕ, ◌+◌, ◌-◌, ◌*◌, ◌≤◌}
+use Prim.Native.Nat.{ℕ, ◌+◌, ◌*◌}
 use mathlib.Core.Path.{◌≡◌, refl, sym, ap, ◌∙◌}
 use mathlib.Core.List.{List, ◌++◌}
 use lib.ListN.{length, take, drop}
 use Rattle.dense_block.specs.Words.{term_of}
 use Rattle.dense_block.proofs.Terms.{row_within}
-use Rattle.enumeration.specs.Orders.{old_row, joined, enumerated_words}
+use Rattle.enumeration.specs.Orders.{old_row, enumerated_words}
 use Rattle.enumeration.proofs.OrderLaws.{old_row_low, mode_given, length_first, next_row}
-use borrow.Author.Rules.{rules}
 use Rattle.enumeration.proofs.order.enumerate_words.Goals as goal
 
 pub loop-k-init : goal.loop-k-init
