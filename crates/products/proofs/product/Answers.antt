@@ -1,7 +1,6 @@
 -- `products::product` meets its contract: what both calls share, and the coefficient turned by the letter power.
-use Rattle.majorana.specs.Sets.{Set, given}
+use Rattle.majorana.specs.Sets.{given}
 use Rattle.products.proofs.ProductAnswers.{complex_done, complex_refused_lem}
-use borrow.Author.Rules.{rules}
 use Rattle.products.proofs.product.Goals as goal
 
 pub returns-in-Done : goal.returns-in-Done

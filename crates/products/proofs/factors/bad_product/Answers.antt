@@ -1,7 +1,6 @@
 -- `factors::bad_product` meets its contract: test by test.
 use mathlib.Core.Path.{refl, sym, ◌∙◌}
 use Rattle.majorana.proofs.SetLaws.{few_bad}
-use borrow.Author.Rules.{rules}
 use Rattle.products.proofs.factors.bad_product.Goals as goal
 
 pub returns-then-bad_rows : goal.returns-then-bad_rows

@@ -3,18 +3,17 @@ use Prim.Native.Nat.{◌*◌, ◌≤◌}
 use native.Mathlib.Omega.{arith}
 use mathlib.Core.Path.{◌≡◌, sym, ◌∙◌}
 use mathlib.Core.Bool.{true, false, not, ◌||◌}
-use mathlib.Core.List.{List, [], ◌∷◌}
+use mathlib.Core.List.{[], ◌∷◌}
 use borrow.Author.Tests.{lt-ltb, le-ltb}
 use lib.ListN.{length}
-use Rattle.refusal.specs.Table.{Lent, ◌of◌}
+use Rattle.refusal.specs.Table.{◌of◌}
 use Rattle.refusal.proofs.Bools.{or_left, or_right}
 use Rattle.refusal.proofs.Rooms.{Hold}
-use Rattle.majorana.specs.Sets.{Set, given, bad_size, bad_rows}
+use Rattle.majorana.specs.Sets.{given, bad_size, bad_rows}
 use Rattle.majorana.specs.Held.{Fits}
 use Rattle.products.specs.Products.{product_size, product_short, product_bad, some_high}
 use Rattle.majorana.proofs.SetLaws.{InSize, in_size, few_words, held_in}
 use Rattle.products.proofs.ProductAnswers.{size_of_set, size_of_product, make_size, make_short, make_value, make_done}
-use borrow.Author.Rules.{rules}
 use Rattle.products.proofs.factors.multiply.Goals as goal
 use Rattle.products.proofs.factors.multiply.Goals.{Else-bad_size, After-words_for-w, Else-numbers-gt512, Else-too_short}
 

@@ -21,7 +21,7 @@ returns c =
     let vs = t.new.az in
     let lu = t.auto.ax ∙ c.requires.2 in
     let lv = t.auto.az ∙ c.requires.3 in
-    makes a.w _ us vs t.result t.ensures lu lv (λ k. (c.slice_known-5-1.given k).fits) (λ k. (c.slice_known-6-1.given k).fits)
+    makes a.w _ us vs t.result t.ensures lu lv (search rules) (search rules)
     a.ox.now a.oz.now c.copy.new.dst c.copy-2.new.dst c.letter_power-letters.result c.letter_power-letters.ensures
     (c.copy.ensures ∙ copied_whole (take a.w a.ox.now) us (length-take-le a.w a.ox.now c.requires.6 ∙ sym lu))
     (c.copy-2.ensures ∙ copied_whole (take a.w a.oz.now) vs (length-take-le a.w a.oz.now c.requires.7 ∙ sym lv))

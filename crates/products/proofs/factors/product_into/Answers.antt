@@ -2,7 +2,6 @@
 use mathlib.Core.Path.{sym}
 use lib.Seq.{length-take-le}
 use Rattle.majorana.proofs.SetLaws.{zeros}
-use borrow.Author.Rules.{rules}
 use Rattle.products.proofs.factors.product_into.Goals as goal
 
 pub slice_bounds-product_in-end : goal.slice_bounds-product_in-end

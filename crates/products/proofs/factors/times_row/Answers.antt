@@ -17,6 +17,6 @@ returns c =
     (c.xor_assign.ensures ∙ ap (λ (l : List ℕ). xors a.ax.now l) c.get_term-3.ensures)
     (c.xor_assign-2.ensures ∙ ap (λ (l : List ℕ). xors a.az.now l) c.get_term-4.ensures)
     ∙ times_words c.requires.0 a.k c.requires.1
-    (λ j. (c.shared_slice_known-1.given j).fits) (λ j. (c.shared_slice_known-2-1.given j).fits)
-    a.ax.now a.az.now c.requires.2 c.requires.3 (λ j. (c.slice_known-1.given j).fits) (λ j. (c.slice_known-2-1.given j).fits)
+    (λ j. (c.type_inv.x j).fits) (λ j. (c.type_inv.z j).fits)
+    a.ax.now a.az.now c.requires.2 c.requires.3 (search rules) (search rules)
     a.f.power p (rw c.get_term.ensures at c.meet-met.ensures.phase)

@@ -1,15 +1,13 @@
 -- `factors::times_rows` meets its contract: the product so far times that of the rows left is the whole product.
-use Prim.Native.Nat.{◌+◌, ◌*◌, ◌-◌, ◌≤◌, ◌<◌}
+use Prim.Native.Nat.{◌+◌, ◌*◌}
 use native.Mathlib.Omega.{arith}
-use mathlib.Core.Path.{◌≡◌, sym, ap, ◌∙◌}
-use lib.ListN.{length, drop}
+use mathlib.Core.Path.{sym, ap, ◌∙◌}
+use lib.ListN.{drop}
 use Rattle.algebra.specs.Rows.{Row, times}
-use Rattle.algebra.specs.Modes.{Modes}
 use Rattle.majorana.specs.Sets.{modes_at}
 use Rattle.products.specs.Products.{product_of}
 use Rattle.products.specs.Private.{row_of}
 use Rattle.products.proofs.ProductLaws.{number_low, product_from, product_step, product_end}
-use borrow.Author.Rules.{rules}
 use Rattle.products.proofs.factors.times_rows.Goals as goal
 
 pub loop-i-init : goal.loop-i-init

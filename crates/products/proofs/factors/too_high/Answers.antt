@@ -1,15 +1,11 @@
 -- `factors::too_high` meets its contract: the numbers from the last, and what is left decides.
-use mathlib.Core.Path.{◌≡◌, refl, sym, ◌∙◌}
-use mathlib.Core.Bool.{Bool}
+use mathlib.Core.Path.{refl, sym, ◌∙◌}
 use native.Mathlib.Omega.{arith}
-use Prim.Native.Nat.{ℕ, ◌≤◌}
 use borrow.Author.Tests.{le-leb, lt-leb}
 use lib.Dec.{leb}
-use lib.ListN.{length, get_or}
-use Rattle.refusal.specs.Search.{some_below}
+use lib.ListN.{get_or}
 use Rattle.refusal.proofs.Searches.{some_here, some_below_lem, some_none}
 use Rattle.products.specs.Products.{some_high}
-use borrow.Author.Rules.{rules}
 use Rattle.products.proofs.factors.too_high.Goals as goal
 
 pub loop-i-init : goal.loop-i-init

@@ -1,13 +1,9 @@
 -- `factors::too_high` meets its contract: the numbers from the last, and what is left decides.
-use mathlib.Core.Path.{◌≡◌, refl, sym, ◌∙◌}
-use mathlib.Core.Bool.{Bool}
-use native.Mathlib.Omega.{arith}
-use Prim.Native.Nat.{ℕ, ◌≤◌}
-use borrow.Author.Tests.{le-leb, lt-leb}
+use mathlib.Core.Path.{◌≡◌}
+use Prim.Native.Nat.{◌≤◌}
 use lib.Dec.{leb}
 use lib.ListN.{length, get_or}
 use Rattle.refusal.specs.Search.{some_below}
-use Rattle.refusal.proofs.Searches.{some_here, some_below_lem, some_none}
 use Rattle.products.specs.Products.{some_high}
 use Rattle.products.proofs.factors.too_high.Given as goal
 
