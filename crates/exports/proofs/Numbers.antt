@@ -2,13 +2,10 @@
 use Prim.Native.Nat.{ℕ, zero, suc, ◌≤◌, ◌<◌}
 use native.Mathlib.Omega.{arith}
 use mathlib.Core.Path.{◌≡◌, refl, sym, ap, subst, ◌∙◌}
-use mathlib.Core.List.{List, [], ◌∷◌}
-use types.Run.{OneOf, miss}
 use lib.Ieee.{binary64, of_bits, of_fields, odd}
 use lib.Count.{count_trailing_zeros}
 use Rattle.pauli.specs.Coefficients.{zero_float}
 use Rattle.refusal.specs.Numbers.{paper}
-use denote.Enum.Declared.{tag_of}
 use Rattle.exports.specs.declared.told.RopethistleAnswer.{RopethistleAnswer}
 use Rattle.refusal.specs.declared.Answer.{Answer}
 use Rattle.refusal.specs.declared.Answer.TheVariants.{Refused}
@@ -17,18 +14,17 @@ use Rattle.trees.specs.declared.Named.TheVariants.{Jkmn}
 use Rattle.ternarytree.specs.Building.{asked, NamedBuilt}
 use Rattle.exports.specs.Behind.{refusal_told, answer_told, Tells, named_by, Slices, NumberBuilt}
 use Rattle.refusal.specs.declared.Refusal.{Refusal}
-use Rattle.refusal.specs.contracts.Refusal.{the_type}
 use Rattle.refusal.specs.declared.Refusal.TheVariants.{Size, Short, Qubits, Child, SelfChild, SecondParent, SecondEntry, Roots, Leaf, Commuting, Dependent, NoVacuum, Vacuum, Undecodable, Unencodable, Malformed, Value, OddModes}
 
--- the tags of all refusals but 10
-abbrev pub others : List ℕ
-others = 0 ∷ 1 ∷ 2 ∷ 3 ∷ 4 ∷ 5 ∷ 6 ∷ 7 ∷ 8 ∷ 10 ∷ 11 ∷ 12 ∷ 13 ∷ 14 ∷ 15 ∷ 16 ∷ 17 ∷ []
+-- a refusal other than 10
+abbrev pub Other : Refusal → Type 0
+Other why = (i j : ℕ) → why ≡ Commuting i j → ⊥
 
 -- the struct of a number with no pair
 abbrev pub alone : ℕ → RopethistleAnswer
 alone k = record { number = k; first = 0; second = 0 }
 
-pub alone_other : (why : Refusal) → OneOf others (tag_of the_type why) → alone (paper why).number ≡ refusal_told why
+pub alone_other : (why : Refusal) → Other why → alone (paper why).number ≡ refusal_told why
 alone_other Size h = refl
 alone_other Short h = refl
 alone_other Qubits h = refl
@@ -38,7 +34,7 @@ alone_other SecondParent h = refl
 alone_other SecondEntry h = refl
 alone_other Roots h = refl
 alone_other Leaf h = refl
-alone_other (Commuting i j) h = absurd (miss others 9 tt h)
+alone_other (Commuting i j) h = absurd (h i j refl)
 alone_other Dependent h = refl
 alone_other NoVacuum h = refl
 alone_other Vacuum h = refl
@@ -49,7 +45,7 @@ alone_other Value h = refl
 alone_other OddModes h = refl
 
 -- the numbers that `refusal` makes, in the two cases
-pub told_other : (why : Refusal) (k : ℕ) → k ≡ (paper why).number → OneOf others (tag_of the_type why) → alone k ≡ refusal_told why
+pub told_other : (why : Refusal) (k : ℕ) → k ≡ (paper why).number → Other why → alone k ≡ refusal_told why
 told_other why k e h = ap alone e ∙ alone_other why h
 
 pub told_pair : (why : Refusal) (k i j : ℕ) → k ≡ (paper why).number → why ≡ Commuting i j → record { number = k; first = i; second = j } ≡ refusal_told why
