@@ -1,5 +1,5 @@
 -- `enumeration_limits::moved` is safe and ends: the row runs up to 512.
-use Rattle.std.proofs.Common.{◌-◌, ◌≤◌, rules}
+use Rattle.std.proofs.Common.{◌-◌, ◌≤◌}
 use Rattle.enumeration_limits.proofs.moved.Given as goal
 
 abbrev pub invariant-loop-k : goal.invariant-loop-k

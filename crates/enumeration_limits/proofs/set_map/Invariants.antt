@@ -1,5 +1,5 @@
 -- `enumeration_limits::set_map` is safe and ends: the index runs up to the length.
-use Rattle.std.proofs.Common.{◌≡◌, ◌-◌, ◌≤◌, length, rules}
+use Rattle.std.proofs.Common.{◌≡◌, ◌-◌, ◌≤◌, length}
 use Rattle.enumeration_limits.proofs.set_map.Given as goal
 
 abbrev pub invariant-loop-i : goal.invariant-loop-i

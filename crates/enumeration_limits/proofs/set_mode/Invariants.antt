@@ -1,5 +1,5 @@
 -- `enumeration_limits::set_mode` is safe and ends: the column runs up to i, and the block stays as long.
-use Rattle.std.proofs.Common.{◌≡◌, ◌-◌, ◌≤◌, length, rules}
+use Rattle.std.proofs.Common.{◌≡◌, ◌-◌, ◌≤◌, length}
 use Rattle.enumeration_limits.proofs.set_mode.Given as goal
 
 abbrev pub invariant-loop-j : goal.invariant-loop-j

@@ -1,5 +1,5 @@
 -- `enumeration_limits::set_phases` is safe and ends: the index runs up to the length, and r stays below 8.
-use Rattle.std.proofs.Common.{◌≡◌, ◌-◌, ◌<◌, ◌≤◌, length, rules}
+use Rattle.std.proofs.Common.{◌≡◌, ◌-◌, ◌<◌, ◌≤◌, length}
 use Rattle.enumeration_limits.proofs.set_phases.Given as goal
 
 abbrev pub invariant-loop-k : goal.invariant-loop-k

@@ -1,5 +1,5 @@
 -- `enumeration_limits::set_rows` is safe and ends: the mode runs up to 256, and the blocks stay as long.
-use Rattle.std.proofs.Common.{◌≡◌, ◌-◌, ◌≤◌, length, rules}
+use Rattle.std.proofs.Common.{◌≡◌, ◌-◌, ◌≤◌, length}
 use Rattle.enumeration_limits.proofs.set_rows.Given as goal
 
 abbrev pub invariant-loop-i : goal.invariant-loop-i
