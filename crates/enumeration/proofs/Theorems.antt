@@ -15,7 +15,7 @@ use Rattle.refusal.specs.declared.Refusal.TheVariants.{Commuting}
 use Rattle.refusal.specs.declared.Answer.TheVariants.{Done, Refused}
 use Rattle.refusal.specs.Numbers.{Paper, bare}
 use Rattle.refusal.specs.Search.{Pair}
-use Rattle.refusal.specs.Table.{◌gives◌, ◌names◌, first_of, ◌of◌, short, Rule}
+use Rattle.refusal.specs.Table.{◌gives◌, ◌names◌, first_of, ◌of◌, short}
 use Rattle.refusal.proofs.Bools.{or_left, or_right}
 use Rattle.refusal.proofs.Rooms.{long_enough}
 use Rattle.refusal.proofs.Searches.{some_at, none_at, none_of, all_at, all_of}
@@ -31,7 +31,7 @@ use Rattle.majorana.specs.Checks.{vacuum_bad, check_room, rows_short, rows_check
 use Rattle.majorana.specs.Findings.{FirstCommuting}
 use Rattle.majorana.specs.Accepted.{Sound}
 use Rattle.majorana.proofs.Theorems.{checked_sound, faithful}
-use Rattle.majorana.proofs.FindingTheorems.{commuting_first, pair_named}
+use Rattle.majorana.proofs.FindingTheorems.{commuting_first, pair_named, without_none}
 use Rattle.enumeration.specs.Orders.{among, permutation, old_row, enumerated_words, enumerated_phases}
 use Rattle.enumeration.specs.Enumerations.{Outs, enumeration_short, enumeration_bad, enumeration_checked, new_words, new_phases, same_vacuum, Enumerated}
 use Rattle.enumeration.specs.Lent.{Maps, Held}
@@ -188,14 +188,6 @@ module _ (s : Set) (vs ms : List ℕ) (old new : Outs) (h : Enumerated s vs ms o
           (words s.xs old.xs new.xs f.x_rows new_x, (words s.zs old.zs new.zs f.z_rows new_z, (phases, (vacuum, (enough, tt)))))
 
 -- ---- refused by 10
-
--- a rule that doesn't hold can be left out
-without_none : (size short bad : Bool) (rest : List Rule)
-    → first_of ((size gives 1) ∷ (short gives 2) ∷ (bad gives 17) ∷ rest) ≡ first_of ((size gives 1) ∷ (short gives 2) ∷ (bad gives 17) ∷ (false gives 12) ∷ rest)
-without_none true short bad rest = refl
-without_none false true bad rest = refl
-without_none false false true rest = refl
-without_none false false false rest = refl
 
 pub enumeration_pair : (i j : ℕ) (s : Set) (vs ms : List ℕ) (old new : Outs) → Enumerated s vs ms old (Refused (Commuting i j)) new → FirstCommuting (modes s) i j
 unfolding enumeration_checked

@@ -42,6 +42,14 @@ commuting_first m i j h =
       first = λ c d l b o. omega (arith, clash_lt (m.row c) (m.row d), eqb-false (clash (m.row c) (m.row d)) 0 (p.first c d l b o));
     }
 
+-- a rule that doesn't hold can be left out
+pub without_none : (size short bad : Bool) (rest : List Rule)
+    → first_of ((size gives 1) ∷ (short gives 2) ∷ (bad gives 17) ∷ rest) ≡ first_of ((size gives 1) ∷ (short gives 2) ∷ (bad gives 17) ∷ (false gives 12) ∷ rest)
+without_none true short bad rest = refl
+without_none false true bad rest = refl
+without_none false false true rest = refl
+without_none false false false rest = refl
+
 module _ (i j : ℕ) where
   -- the pair of 10 is the one that was found, in a table of 1, 2, 17, perhaps 12, and the row check's numbers
   pub pair_named : (size short bad none : Bool) (p : Pair) (dep rule : Bool)
@@ -60,14 +68,6 @@ module _ (i j : ℕ) where
       go false false false false no_pair true rule k h = absurd (omega arith)
       go false false false false no_pair false true k h = absurd (omega arith)
       go false false false false no_pair false false k h = absurd (omega arith)
-
-  -- a rule that doesn't hold can be left out
-  without_none : (size short bad : Bool) (rest : List Rule)
-      → first_of ((size gives 1) ∷ (short gives 2) ∷ (bad gives 17) ∷ rest) ≡ first_of ((size gives 1) ∷ (short gives 2) ∷ (bad gives 17) ∷ (false gives 12) ∷ rest)
-  without_none true short bad rest = refl
-  without_none false true bad rest = refl
-  without_none false false true rest = refl
-  without_none false false false rest = refl
 
   pub check_pair : (s : Set) (vs room after : List ℕ) → RowsChecked s vs room (Refused (Commuting i j)) after → FirstCommuting (modes s) i j
   unfolding rows_checked
