@@ -8,12 +8,12 @@
 -- that say what is proved, are in specs/Accepted.antt.
 --
 -- The theorems of the algebra that these rest on are in crate `algebra`, over numbers of any width:
---   Duals         dual_same, dual-other: e and c are dual
---   Demand3       demand-3: all of `Faithful`, for lists and strings as numbers
---   Meaning       killed_empty, empty-killed: a mode is empty in a state exactly if (γ_2i + i γ_2i+1) / 2 kills the state
---   Operators     encoded-acts: the string and the phase of a list are those of the γ_2i of its modes, applied from the highest mode down
---   Independence  anticommuting-independent: rows that anticommute in pairs are independent, so 11 never follows where 10 was passed
---   Existence     vacuum-exists: where moreover X parts agree and every d is even there is a vacuum, so 12 is never answered
+--   Duals         dual_same, dual_other: e and c are dual
+--   Demand3       demand_3: all of `Faithful`, for lists and strings as numbers
+--   Meaning       killed_empty, empty_killed: a mode is empty in a state exactly if (γ_2i + i γ_2i+1) / 2 kills the state
+--   Operators     encoded_acts: the string and the phase of a list are those of the γ_2i of its modes, applied from the highest mode down
+--   Independence  anticommuting_independent: rows that anticommute in pairs are independent, so 11 never follows where 10 was passed
+--   Existence     vacuum_exists: where moreover X parts agree and every d is even there is a vacuum, so 12 is never answered
 use Prim.Native.Nat.{ℕ, zero, suc, ◌*◌, ◌/◌, ◌^◌, ◌<◌}
 use native.Mathlib.Nat.{lt_of_lt_of_le}
 use native.Mathlib.Omega.{arith}

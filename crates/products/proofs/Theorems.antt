@@ -1,10 +1,10 @@
 -- What the two calls of this crate promise.
 --
 -- Where one of them is done, the words that it left stand for the product of the rows: no bit of it is cut off and none is stray, so that it may be lent again as a row:
--- `product_whole`, `real-whole`. The rows of a set that passes 17 are rows on q columns, a product of such rows is one, by induction on the factors, and q columns fit
+-- `product_whole`, `real_whole`. The rows of a set that passes 17 are rows on q columns, a product of such rows is one, by induction on the factors, and q columns fit
 -- their words.
 --
--- On one input the call with the real coefficient x answers as the one with the complex coefficient (x, 0), and leaves the same words: `real-stands`. Its coefficient is
+-- On one input the call with the real coefficient x answers as the one with the complex coefficient (x, 0), and leaves the same words: `real_stands`. Its coefficient is
 -- marked, and stands for the complex one, signs of zero apart.
 use Prim.Native.Nat.{ℕ, zero, suc, ◌*◌, ◌<◌}
 use native.Mathlib.Omega.{arith}

@@ -32,11 +32,11 @@ read c =
 pub overflow_add-result : goal.overflow_add-result
 overflow_add-result c = subst (λ (z : ℤ). SFits w32 z) (sym (read_back (goal.at.overflow_add-result c).Start)) (sum_fits (goal.at.overflow_add-result c).Start)
 
+pub returns : goal.returns
+returns c = ap nat_abs (read (goal.at.returns c).Start)
+
 pub overflow_cast-result : goal.overflow_cast-result
 overflow_cast-result c = (
   subst (λ (z : ℤ). T (non_neg z)) (sym (read (goal.at.overflow_cast-result c).Start)) tt,
   subst (λ (z : ℤ). Fits w8 (nat_abs z)) (sym (read (goal.at.overflow_cast-result c).Start)) (record { fits = omega (arith, mod_four_lt c.args.r) }),
 )
-
-pub returns : goal.returns
-returns c = ap nat_abs (read (goal.at.returns c).Start)

@@ -16,7 +16,7 @@ pub returns-then-rows-numbers : goal.returns-then-rows-numbers
 returns-then-rows-numbers c =
     let l = c.loop-i in
     let a = c.args in
-    sym (l.invariant.1 ∙ some_here l.i (λ k. leb a.rows (get_or a.numbers.now k 0)) (omega arith) (le-leb _ _ c.if-rows-numbers.true))
+    sym (l.invariant.1 ∙ some_here l.i (λ k. leb a.rows (get_or a.numbers.now k 0)) (omega arith) (le-leb _ _ (omega arith)))
 
 pub loop-i-preserved : goal.loop-i-preserved
 loop-i-preserved c =

@@ -19,16 +19,15 @@ plant-requires c =
 pub naive_slots-requires : goal.naive_slots-requires
 naive_slots-requires c =
     let a = c.args in
-    (c.requires.0, children_most (named_tree a.tree a.n) a.n c.plant.new.children (named_closed a.tree a.n) c.plant.ensures.nodes, refl)
+    (c.requires.0, children_most _ a.n c.plant.new.children (named_closed _ a.n) c.plant.ensures.nodes, refl)
 
 pub build_rows-requires : goal.build_rows-requires
 build_rows-requires c =
     let a = c.args in
-    let t = named_tree a.tree a.n in
     let p = c.plant in
-    let ready = named_ready a.tree a.n a.w p.new.columns p.new.parents p.new.children c.naive_slots.new.slots c.requires.2 p.ensures
-    (c.naive_slots.ensures.1 t p.ensures.nodes) in
-    (c.requires.0, omega (arith, c.requires.0, c.requires.2), (false, t, ready), c.requires.3, c.requires.4, c.requires.5)
+    let ready = named_ready _ a.n a.w p.new.columns p.new.parents p.new.children c.naive_slots.new.slots c.requires.2 p.ensures
+    (c.naive_slots.ensures.1 _ p.ensures.nodes) in
+    (c.requires.0, omega (arith, c.requires.0, c.requires.2), (false, _, ready), c.requires.3, c.requires.4, c.requires.5)
 
 pub returns : goal.returns
 returns c =

@@ -12,10 +12,10 @@ use Rattle.ternarytree.proofs.writing.put_rows.Goals as goal
 use Rattle.ternarytree.proofs.writing.put_rows.Goals.{In-loop-m}
 
 x_row : (c : In-loop-m) → c.loop-m.m * c.args.w + c.args.w ≤ length c.loop-m.x
-x_row c = row_within c.loop-m.m (2 * c.args.n) c.args.w (length c.loop-m.x) c.loop-m-test.true (omega (arith, c.loop-m.invariant.1, c.requires.4))
+x_row c = row_within c.loop-m.m (2 * c.args.n) c.args.w (length c.loop-m.x) (omega arith) (omega (arith, c.loop-m.invariant.1, c.requires.4))
 
 z_row : (c : In-loop-m) → c.loop-m.m * c.args.w + c.args.w ≤ length c.loop-m.z
-z_row c = row_within c.loop-m.m (2 * c.args.n) c.args.w (length c.loop-m.z) c.loop-m-test.true (omega (arith, c.loop-m.invariant.2, c.requires.5))
+z_row c = row_within c.loop-m.m (2 * c.args.n) c.args.w (length c.loop-m.z) (omega arith) (omega (arith, c.loop-m.invariant.2, c.requires.5))
 
 pub link-requires : goal.link-requires
 link-requires c = (c.requires.0, c.requires.1, refl)
@@ -32,7 +32,7 @@ pub overflow_add-e : goal.overflow_add-e
 overflow_add-e c = record { fits = omega (arith, x_row (goal.at.overflow_add-e c).In-loop-m) }
 
 pub overflow_sub-slots : goal.overflow_sub-slots
-overflow_sub-slots c = (c.requires.3 c.loop-m.m c.loop-m-test.true).0
+overflow_sub-slots c = (c.requires.3 c.loop-m.m (omega arith)).0
 
 pub offset_bounds-x-a : goal.offset_bounds-x-a
 offset_bounds-x-a c = record { fits = omega (arith, x_row (goal.at.offset_bounds-x-a c).In-loop-m) }
@@ -44,7 +44,7 @@ pub put_row-requires : goal.put_row-requires
 put_row-requires c =
     let l = c.loop-m in
     let u = c.link in
-    let w = c.requires.3 l.m c.loop-m-test.true in
+    let w = c.requires.3 l.m (omega arith) in
     let k : l.m * c.args.w + c.args.w - l.m * c.args.w ≡ c.args.w = omega arith in (
       c.requires.0,
       omega (arith, w.0, w.1),
@@ -64,10 +64,10 @@ loop-m-preserved c =
       same_len_mid (l.m * a.w) (l.m * a.w + a.w - l.m * a.w) l.z c.put_row.new.z c.put_row.auto.z ∙ l.invariant.2,
       simp length-set l.invariant.3,
       λ t slot p q r.
-          let at = r l.m c.loop-m-test.true in
+          let at = r l.m (omega arith) in
           let e : nth a.slots.now l.m - 1 ≡ slot l.m = omega (arith, at.0) in
           rows_step t slot l.m a.w _ _ _ a.x.now a.z.now a.phases.now l.x l.z l.phases _ _ (l.invariant.4 t slot p q r) e k (x_row (goal.at.loop-m-preserved c).In-loop-m) (z_row (goal.at.loop-m-preserved c).In-loop-m)
-          (omega (arith, c.loop-m-test.true, c.requires.6)) (c.put_row.ensures t (linked a.n a.parents.now u.new.links u.ensures t p) q),
+          (omega (arith, c.requires.6)) (c.put_row.ensures t (linked a.n a.parents.now u.new.links u.ensures t p) q),
     )
 
 pub returns : goal.returns
