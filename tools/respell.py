@@ -72,7 +72,8 @@ def turn_rt(text, table):
 
 
 def turn_page(text, table):
-    return re.sub(r"`[^`\n]+`", lambda m: turn(m[0], {**table, **{f"`{k}": f"`{v}" for k, v in table.items()}, **{f"{k}`": f"{v}`" for k, v in table.items()}, **{f"`{k}`": f"`{v}`" for k, v in table.items()}}), text)
+    """In a page: its code spans."""
+    return re.sub(r"`([^`\n]+)`", lambda m: "`" + turn(m[1], table) + "`", text)
 
 
 def main():
