@@ -1,17 +1,7 @@
 -- `alike` decides whether words are the same, and so whether rows of one length have the same number.
-use Rattle.std.proofs.Common.{◌≡◌, ℕ, suc, ◌+◌, ◌<◌, Bool, true, false, ◌&&◌, eqb, List, [], ◌∷◌, length, get_or, drop, sym, refl, ap, ◌∙◌, add-one, arith, drop-cons, eq-eqb, ne_eqb, eqb-true}
+use Rattle.std.proofs.Common.{◌≡◌, ℕ, ◌+◌, ◌<◌, Bool, true, false, ◌&&◌, eqb, List, [], ◌∷◌, length, get_or, drop, sym, refl, ap, ◌∙◌, add-one, arith, drop-cons, eq-eqb, ne_eqb, eqb-true}
 use Rattle.dense_block.specs.Words.{value, alike}
 use Rattle.dense_block.proofs.Values.{Words, value_same}
-
-pub alike_length : (xs ys : List ℕ) → (length xs ≡ length ys → ⊥) → alike xs ys ≡ false
-alike_length [] [] h = absurd (h refl)
-alike_length [] (y ∷ ys) h = refl
-alike_length (x ∷ xs) [] h = refl
-alike_length (x ∷ xs) (y ∷ ys) h = rw (alike_length xs ys (λ e. h (ap suc e))) (and_false (eqb x y))
-  where
-    and_false : (b : Bool) → (b && false) ≡ false
-    and_false true = refl
-    and_false false = refl
 
 pub alike_step : (xs ys : List ℕ) (i : ℕ) → i < length xs → i < length ys
     → alike (drop i xs) (drop i ys) ≡ (eqb (get_or xs i 0) (get_or ys i 0) && alike (drop (i + 1) xs) (drop (i + 1) ys))

@@ -1,5 +1,5 @@
 -- Words made zero, one by one.
-use Rattle.std.proofs.Common.{◌≡◌, ℕ, zero, suc, ◌+◌, min, List, [], ◌∷◌, length, drop, set, refl, ap, add-one, arith}
+use Rattle.std.proofs.Common.{◌≡◌, ℕ, zero, suc, ◌+◌, ◌≤◌, min, List, [], ◌∷◌, ◌++◌, length, take, drop, set, refl, ap, add-one, arith}
 use native.Mathlib.Nat.{zero-min, min-zero, suc-min-suc}
 use Rattle.dense_block.specs.Words.{zeroed}
 
@@ -11,6 +11,12 @@ zeroed_suc (w ∷ ws) (suc i) = ap (λ (l : List ℕ). 0 ∷ l) (zeroed_suc ws i
 
 pub zeroed_step : (ws : List ℕ) (i : ℕ) → set (zeroed i ws) i 0 ≡ zeroed (i + 1) ws
 zeroed_step ws i = rw add-one (zeroed_suc ws i)
+
+-- the first words cleared by themselves
+pub zeroed_take : (n : ℕ) (ws : List ℕ) → n ≤ length ws → zeroed n (take n ws) ++ drop n ws ≡ zeroed n ws
+zeroed_take zero ws h = refl
+zeroed_take (suc n) [] h = absurd (omega arith)
+zeroed_take (suc n) (w ∷ ws) h = ap (λ (l : List ℕ). 0 ∷ l) (zeroed_take n ws (omega arith))
 
 pub length_zeroed : (n : ℕ) (ws : List ℕ) → length (zeroed n ws) ≡ length ws
 length_zeroed zero ws = refl

@@ -1,8 +1,7 @@
--- Rows of a block: where a row lies, how long it is, and what is left of it past the end.
-use Rattle.std.proofs.Common.{◌≡◌, ℕ, ◌+◌, ◌-◌, ◌*◌, ◌/◌, ◌<◌, ◌≤◌, min, List, [], ◌++◌, length, get_or, take, drop, sym, ap, ◌∙◌, le_of_lt, mul-le-mul_right, div-lt_iff_lt-mul, add-mul, one-mul, le-div_iff_mul-le, arith, length-append, length-drop, take-append-drop, drop_of_length-le, length-take, length-take-le, get_or-drop, take_all, get_or-take, drop-drop, take_at, drop_at}
-use native.Mathlib.Nat.{min-eq_left, min-eq_right}
-use native.Mathlib.Decide.{dec_le}
-use lib.Seq.{take-nil, take-length, take-append-le, drop-length, drop-append-le, drop-append-add}
+-- Rows of a block: where a row lies, how long it is, and one row written.
+use Rattle.std.proofs.Common.{◌≡◌, ℕ, ◌+◌, ◌-◌, ◌*◌, ◌/◌, ◌<◌, ◌≤◌, List, ◌++◌, length, get_or, take, drop, sym, ap, ◌∙◌, mul-le-mul_right, add-mul, one-mul, le-div_iff_mul-le, arith, length-append, length-drop, take-append-drop, length-take, length-take-le, get_or-drop, get_or-take, drop-drop, take_at, drop_at, [], le_of_lt, div-lt_iff_lt-mul, drop_of_length-le}
+use native.Mathlib.Nat.{min-eq_left}
+use lib.Seq.{take-nil, take-append-le, drop-append-le, drop-append-add}
 use Rattle.dense_block.specs.Words.{term_of, with_term}
 use Rattle.dense_block.proofs.Values.{Words, words_take, words_drop}
 
@@ -22,8 +21,6 @@ length_term w ws k h = rw (length-take, length-drop) (min-eq_left (omega arith))
 pub term_at : (w : ℕ) (ws : List ℕ) (k i : ℕ) → i < w → get_or (term_of w ws k) i 0 ≡ get_or ws (k * w + i) 0
 term_at w ws k i h = get_or-take w (drop (k * w) ws) i 0 h ∙ get_or-drop (k * w) ws i 0
 
--- ---- a row that a block holds in part, or not at all
-
 -- its start is inside exactly if as many rows fit
 pub start_inside : (n w k : ℕ) → (w ≡ 0 → ⊥) → k ≤ n / w → k * w ≤ n
 start_inside n w k h g = let p : 0 < w = omega (arith, h) in (le-div_iff_mul-le p).0 g
@@ -31,37 +28,12 @@ start_inside n w k h g = let p : 0 < w = omega (arith, h) in (le-div_iff_mul-le 
 pub start_outside : (n w k : ℕ) → (w ≡ 0 → ⊥) → n / w < k → n ≤ k * w
 start_outside n w k h g = let p : 0 < w = omega (arith, h) in le_of_lt ((div-lt_iff_lt-mul p).0 g)
 
--- `&x[x.len()..]` holds nothing
-end_nil : (ws : List ℕ) → take (length ws - length ws) (drop (length ws) ws) ≡ []
-end_nil ws = rw (drop-length ws) (take-nil (length ws - length ws))
+-- past the end a row has no words
+pub term_past : (w : ℕ) (ws : List ℕ) (k : ℕ) → length ws ≤ k * w → ◌≡◌ {A = List ℕ} [] (term_of w ws k)
+term_past w ws k h = sym (rw (drop_of_length-le ws h) (take-nil w))
 
-pub term_past : (w : ℕ) (ws : List ℕ) (k : ℕ) → length ws ≤ k * w → take (length ws - length ws) (drop (length ws) ws) ≡ term_of w ws k
-term_past w ws k h = end_nil ws ∙ sym (rw (drop_of_length-le ws h) (take-nil w))
-
-pub term_empty : (w : ℕ) (ws : List ℕ) (k : ℕ) → w ≡ 0 → take (length ws - length ws) (drop (length ws) ws) ≡ term_of w ws k
-term_empty w ws k h = end_nil ws ∙ rw h
-
--- no more words are taken than there are
-pub term_part : (m w : ℕ) (ws : List ℕ) (k : ℕ) → k * w ≤ length ws → m ≡ min w (length ws - k * w) → take (k * w + m - k * w) (drop (k * w) ws) ≡ term_of w ws k
-term_part m w ws k h e =
-    let c : k * w + m - k * w ≡ min w (length (drop (k * w) ws)) = omega (arith, length-drop (k * w) ws) in
-    rw c (least_take w (drop (k * w) ws) (dec_le w (length (drop (k * w) ws))))
-  where
-    least_take : (n : ℕ) (l : List ℕ) → Dec (n ≤ length l) → take (min n (length l)) l ≡ take n l
-    least_take n l (yes g) = rw (min-eq_left g)
-    least_take n l (no g) = let f : length l ≤ n = omega (arith, g) in rw (min-eq_right f, take-length l) (sym (take_all n l f))
-
--- a row that starts at a: the words up to the end where fewer than w are left, and else w words
-pub term_rest : (w : ℕ) (ws : List ℕ) (k a : ℕ) → a ≡ k * w → length ws - a < w → take (length ws - a) (drop a ws) ≡ term_of w ws k
-term_rest w ws k a e h =
-    let d : length (drop a ws) ≡ length ws - a = length-drop a ws in
-    ap (λ (n : ℕ). take n (drop a ws)) (sym d)
-    ∙ take-length (drop a ws)
-    ∙ sym (take_all w (drop a ws) (omega arith))
-    ∙ ap (λ (n : ℕ). take w (drop n ws)) e
-
-pub term_whole : (w : ℕ) (ws : List ℕ) (k a : ℕ) → a ≡ k * w → take (a + w - a) (drop a ws) ≡ term_of w ws k
-term_whole w ws k a e = let d : a + w - a ≡ w = omega arith in ap (λ (n : ℕ). take n (drop a ws)) d ∙ ap (λ (n : ℕ). take w (drop n ws)) e
+pub term_empty : (w : ℕ) (ws : List ℕ) (k : ℕ) → w ≡ 0 → ◌≡◌ {A = List ℕ} [] (term_of w ws k)
+term_empty w ws k h = rw h
 
 -- ---- one row of a block written
 

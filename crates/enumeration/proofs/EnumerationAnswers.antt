@@ -1,21 +1,18 @@
 -- Mode enumeration: which test refuses, what it leaves, and one outcome. Past the map's own test the table is that of the row check.
 use Prim.Native.Nat.{ℕ, zero, suc, ◌≤◌}
 use mathlib.Core.Path.{◌≡◌, refl, sym, ap, ◌∙◌}
-use mathlib.Core.List.{List, [], ◌∷◌, ◌++◌}
+use mathlib.Core.List.{List, [], ◌∷◌}
 use mathlib.Core.Bool.{Bool, true, false, ◌||◌}
-use lib.ListN.{length, take, drop}
-use lib.Seq.{length-take-le}
+use lib.ListN.{length}
 use Rattle.refusal.specs.declared.Refusal.{Refusal}
 use Rattle.refusal.specs.declared.Refusal.TheVariants.{Size, Short, Value}
-use Rattle.refusal.specs.declared.Answer.{Answer}
-use Rattle.refusal.specs.declared.Answer.TheVariants.{Done, Refused}
-use Rattle.refusal.specs.Numbers.{Paper, bare, paper}
+use Rattle.std.specs.Prelude.{Ok, Err}
+use Rattle.refusal.specs.Numbers.{Paper, Answer, bare, paper}
 use Rattle.refusal.specs.Table.{Lent, ◌of◌, short, if_zero, on_done, past_two}
 use Rattle.refusal.proofs.Bools.{or_false}
 use Rattle.refusal.proofs.Outcome.{one_outcome, answered_injective, refused_number}
 use Rattle.refusal.proofs.Rooms.{long_enough}
-use Rattle.dense_block.specs.Words.{zeroed, copied}
-use Rattle.dense_block.proofs.Alongs.{copied_whole}
+use Rattle.dense_block.specs.Words.{zeroed}
 use Rattle.majorana.specs.Sets.{Set, width, bad_size, set_lent}
 use Rattle.majorana.specs.Held.{Fits}
 use Rattle.majorana.specs.Checks.{vacuum_bad, check_room, rows_short, rows_checked, RowsChecked}
@@ -24,11 +21,6 @@ use Rattle.enumeration.specs.Orders.{permutation}
 use Rattle.enumeration.specs.Enumerations.{Outs, outs, enumeration_short, enumeration_bad, enumeration_checked, Enumerated}
 use Rattle.enumeration.specs.Lent.{Maps, Held, Wrote}
 use Rattle.enumeration.proofs.OrderLaws.{maps_of}
-
--- the first words copied from those of another slice
-pub front_copied : (w : ℕ) (old vs new : List ℕ) → w ≤ length old → w ≤ length vs → new ≡ copied (take w old) (take w vs) → new ++ drop w old ≡ take w vs ++ drop w old
-front_copied w old vs new h k e =
-    ap (λ (l : List ℕ). l ++ drop w old) (e ∙ copied_whole (take w old) (take w vs) (length-take-le w old h ∙ sym (length-take-le w vs k)))
 
 -- an output of a refused call
 refused_stays : (why : Refusal) (p : Paper) (new old : List ℕ) → paper why ≡ p → old ≡ on_done p new old
@@ -50,11 +42,11 @@ pub record Lengths (s : Set) (vs ms : List ℕ) (o : Outs) : Type 0 where
   pub room : check_room s ≤ length o.room
 
 module _ (s : Set) (vs ms : List ℕ) (old : Outs) where
-  pub enumerated_size : bad_size s.n s.q ≡ true → Enumerated s vs ms old (Refused Size) old
+  pub enumerated_size : bad_size s.n s.q ≡ true → Enumerated s vs ms old (Err Size) old
   unfolding enumeration_checked
   enumerated_size h = record { answer = rw h; x_rows = rw h; z_rows = rw h; phases = rw h; vacuum = rw h; left = rw h }
 
-  pub enumerated_short : bad_size s.n s.q ≡ false → enumeration_short s vs ms old ≡ true → Enumerated s vs ms old (Refused Short) old
+  pub enumerated_short : bad_size s.n s.q ≡ false → enumeration_short s vs ms old ≡ true → Enumerated s vs ms old (Err Short) old
   unfolding enumeration_checked
   enumerated_short h k = record { answer = rw (h, k); x_rows = rw (h, k); z_rows = rw (h, k); phases = rw (h, k); vacuum = rw (h, k); left = rw (h, k) }
 
@@ -82,7 +74,7 @@ module _ (s : Set) (vs ms : List ℕ) (old : Outs) where
 
     -- the map decides
     pub enumerated_map : permutation s.n ms ≡ false → (room : List ℕ) → room ≡ zeroed (check_room s) old.room
-        → Enumerated s vs ms old (Refused Value) (outs old.xs old.zs old.ps old.vs room)
+        → Enumerated s vs ms old (Err Value) (outs old.xs old.zs old.ps old.vs room)
     unfolding enumeration_checked enumeration_bad
     enumerated_map h room e = record {
       answer = sym table;
@@ -112,8 +104,8 @@ module _ (s : Set) (vs ms : List ℕ) (old : Outs) where
           rows_long : short (set_lent s.n (width s) (length s.xs) (length s.zs) (length s.ps) ((width s of length vs) ∷ (check_room s of length old.room) ∷ [])) ≡ false
           rows_long = long_enough (set_lent s.n (width s) (length s.xs) (length s.zs) (length s.ps) ((width s of length vs) ∷ (check_room s of length old.room) ∷ [])) (lengths.read.x_rows, (lengths.read.z_rows, (lengths.read.p_rows, (lengths.vacuum, (lengths.room, tt)))))
 
-      pub enumerated_refused : (why : Refusal) (room : List ℕ) → RowsChecked s vs old.room (Refused why) room
-          → Enumerated s vs ms old (Refused why) (outs old.xs old.zs old.ps old.vs room)
+      pub enumerated_refused : (why : Refusal) (room : List ℕ) → RowsChecked s vs old.room (Err why) room
+          → Enumerated s vs ms old (Err why) (outs old.xs old.zs old.ps old.vs room)
       enumerated_refused why room h =
           let answer : paper why ≡ enumeration_checked s vs ms old = h.answer ∙ sym row_check in
           record {
@@ -125,8 +117,8 @@ module _ (s : Set) (vs ms : List ℕ) (old : Outs) where
             left = rw row_check h.left;
           }
 
-      pub enumerated_done : (xs zs ps ws room : List ℕ) → RowsChecked s vs old.room Done room → Wrote s vs ms old.xs old.zs old.ps old.vs xs zs ps ws
-          → Enumerated s vs ms old Done (outs xs zs ps ws room)
+      pub enumerated_done : (xs zs ps ws room : List ℕ) → RowsChecked s vs old.room (Ok tt) room → Wrote s vs ms old.xs old.zs old.ps old.vs xs zs ps ws
+          → Enumerated s vs ms old (Ok tt) (outs xs zs ps ws room)
       enumerated_done xs zs ps ws room h wrote =
           let answer : enumeration_checked s vs ms old ≡ bare 0 = row_check ∙ sym h.answer in
           record {

@@ -4,7 +4,7 @@ use mathlib.Core.List.{[], ◌∷◌}
 use mathlib.Core.Bool.{true, false}
 use lib.Count.{ones, ones_in}
 use Rattle.refusal.specs.declared.Refusal.TheVariants.{Value, Vacuum}
-use Rattle.refusal.specs.declared.Answer.TheVariants.{Done, Refused}
+use Rattle.std.specs.Prelude.{Ok, Err}
 use Rattle.refusal.specs.Search.{some_below, all_below, least_below, first_pair}
 use Rattle.algebra.specs.Rows.{bit, common, dot, clash}
 use Rattle.algebra.specs.Modes.{commuting_pair, vacuum_rule, e, d, paired, empty}
@@ -53,16 +53,16 @@ cleared = outs (7 ∷ 7 ∷ 7 ∷ 7 ∷ 7 ∷ []) (7 ∷ 7 ∷ 7 ∷ 7 ∷ 7 ∷
 abbrev exchanged : Outs
 exchanged = outs (2 ∷ 2 ∷ 1 ∷ 1 ∷ 7 ∷ []) (1 ∷ 3 ∷ 0 ∷ 1 ∷ 7 ∷ []) (0 ∷ 1 ∷ 0 ∷ 1 ∷ 7 ∷ []) (0 ∷ 7 ∷ []) (0 ∷ 0 ∷ 0 ∷ 0 ∷ 0 ∷ 0 ∷ 0 ∷ 0 ∷ 7 ∷ [])
 
-pub exchange_done : Enumerated jordan_wigner (0 ∷ []) (1 ∷ 0 ∷ []) sevens Done exchanged
+pub exchange_done : Enumerated jordan_wigner (0 ∷ []) (1 ∷ 0 ∷ []) sevens (Ok tt) exchanged
 unfolding enumeration_checked enumeration_short enumeration_bad vacuum_bad bad_size bad_rows bad_row_at strays permutation new_number among commuting_pair first_pair least_below clash dependent combo bit vacuum_rule empty paired e d dot common ones ones_in all_below some_below enumerated_words enumerated_phases
 exchange_done = record { answer = refl; x_rows = refl; z_rows = refl; phases = refl; vacuum = refl; left = refl }
 
 -- a repeat: 17, no output changed, the room cleared
-pub repeat_refused : Enumerated jordan_wigner (0 ∷ []) (1 ∷ 1 ∷ []) sevens (Refused Value) cleared
+pub repeat_refused : Enumerated jordan_wigner (0 ∷ []) (1 ∷ 1 ∷ []) sevens (Err Value) cleared
 unfolding enumeration_checked enumeration_short enumeration_bad vacuum_bad bad_size bad_rows bad_row_at strays permutation new_number among all_below some_below
 repeat_refused = record { answer = refl; x_rows = refl; z_rows = refl; phases = refl; vacuum = refl; left = refl }
 
 -- the vacuum 10 breaks the rule: 13, after the map passed
-pub vacuum_refused : Enumerated jordan_wigner (1 ∷ []) (1 ∷ 0 ∷ []) sevens (Refused Vacuum) cleared
+pub vacuum_refused : Enumerated jordan_wigner (1 ∷ []) (1 ∷ 0 ∷ []) sevens (Err Vacuum) cleared
 unfolding enumeration_checked enumeration_short enumeration_bad vacuum_bad bad_size bad_rows bad_row_at strays permutation new_number among commuting_pair first_pair least_below clash dependent combo bit vacuum_rule empty paired e d dot common ones ones_in all_below some_below
 vacuum_refused = record { answer = refl; x_rows = refl; z_rows = refl; phases = refl; vacuum = refl; left = refl }

@@ -1,7 +1,7 @@
 -- What an enumeration that is done means in the algebra: new mode i has the old rows of mode map[i], each old mode is one of the new ones, the vacuum is the same string, and
 -- what held of the old set holds of the new one. So it passes the row check, and demand 3 holds of it. Where it is refused by 10, the pair is that of the row check: the first two
 -- rows that commute.
-use Prim.Native.Nat.{ℕ, ◌+◌, ◌*◌, ◌/◌, ◌%◌, ◌≤◌, ◌<◌}
+use Prim.Native.Nat.{ℕ, ◌+◌, ◌*◌, ◌/◌, ◌≤◌, ◌<◌}
 use native.Mathlib.Decide.{dec_lt}
 use native.Mathlib.Omega.{arith}
 use mathlib.Core.Path.{◌≡◌, refl, sym, ap, ◌∙◌}
@@ -12,7 +12,7 @@ use lib.Dec.{eqb}
 use lib.ListN.{length, get_or, take, drop, length-append}
 use lib.Seq.{length-take-le, take_at}
 use Rattle.refusal.specs.declared.Refusal.TheVariants.{Commuting}
-use Rattle.refusal.specs.declared.Answer.TheVariants.{Done, Refused}
+use Rattle.std.specs.Prelude.{Ok, Err}
 use Rattle.refusal.specs.Numbers.{Paper, bare}
 use Rattle.refusal.specs.Search.{Pair}
 use Rattle.refusal.specs.Table.{◌gives◌, ◌names◌, first_of, ◌of◌, short}
@@ -35,7 +35,7 @@ use Rattle.majorana.proofs.FindingTheorems.{commuting_first, pair_named, without
 use Rattle.enumeration.specs.Orders.{among, permutation, old_row, enumerated_words, enumerated_phases}
 use Rattle.enumeration.specs.Enumerations.{Outs, enumeration_short, enumeration_bad, enumeration_checked, new_words, new_phases, same_vacuum, Enumerated}
 use Rattle.enumeration.specs.Lent.{Maps, Held}
-use Rattle.enumeration.proofs.OrderLaws.{numbers_differ, old_row_low, length_enumerated, length_phases, term_enumerated, phase_enumerated, row_enumerated}
+use Rattle.enumeration.proofs.OrderLaws.{numbers_differ, old_row_even, old_row_odd, old_row_low, length_enumerated, length_phases, term_enumerated, phase_enumerated, row_enumerated}
 use Rattle.enumeration.proofs.Permutations.{permutation_all}
 use Rattle.enumeration.proofs.EnumerationAnswers.{lengths, maps, row_check}
 
@@ -51,7 +51,7 @@ old_row_apart n ms h j k a b q = go (dec_lt (j / 2) (k / 2)) (dec_lt (k / 2) (j 
     go (no u) (yes v) = absurd (numbers_differ n ms h (j / 2) (k / 2) (omega arith) v (sym same))
     go (no u) (no v) = omega (arith, u, v)
 
-module _ (s : Set) (vs ms : List ℕ) (old new : Outs) (h : Enumerated s vs ms old Done new) where
+module _ (s : Set) (vs ms : List ℕ) (old new : Outs) (h : Enumerated s vs ms old (Ok tt) new) where
   -- the set that is written
   abbrev pub written : Set
   written = given s.n s.q new.xs new.zs new.ps
@@ -113,11 +113,7 @@ module _ (s : Set) (vs ms : List ℕ) (old new : Outs) (h : Enumerated s vs ms o
   -- new mode i has the old rows of mode map[i]
   pub new_mode : (i : ℕ) → i < s.n → (lo (modes written) i ≡ lo (modes s) (get_or ms i 0)) × (hi (modes written) i ≡ hi (modes s) (get_or ms i 0))
   new_mode i low =
-      let a : 2 * i / 2 ≡ i = omega arith in
-      let b : 2 * get_or ms (2 * i / 2) 0 + 2 * i % 2 ≡ 2 * get_or ms i 0 = ap (λ (k : ℕ). 2 * get_or ms k 0 + 2 * i % 2) a ∙ omega arith in
-      let c : (2 * i + 1) / 2 ≡ i = omega arith in
-      let g : 2 * get_or ms ((2 * i + 1) / 2) 0 + (2 * i + 1) % 2 ≡ 2 * get_or ms i 0 + 1 = ap (λ (k : ℕ). 2 * get_or ms k 0 + (2 * i + 1) % 2) c ∙ omega arith in
-      (new_row (2 * i) (omega arith) ∙ ap (λ (k : ℕ). (modes s).row k) b, new_row (2 * i + 1) (omega arith) ∙ ap (λ (k : ℕ). (modes s).row k) g)
+      (new_row (2 * i) (omega arith) ∙ ap (modes s).row (old_row_even ms i), new_row (2 * i + 1) (omega arith) ∙ ap (modes s).row (old_row_odd ms i))
 
   -- and each old mode is one of the new ones
   pub no_mode_lost : (j : ℕ) → j < s.n → (i : ℕ) × (i < s.n) × (get_or ms i 0 ≡ j)
@@ -189,7 +185,7 @@ module _ (s : Set) (vs ms : List ℕ) (old new : Outs) (h : Enumerated s vs ms o
 
 -- ---- refused by 10
 
-pub enumeration_pair : (i j : ℕ) (s : Set) (vs ms : List ℕ) (old new : Outs) → Enumerated s vs ms old (Refused (Commuting i j)) new → FirstCommuting (modes s) i j
+pub enumeration_pair : (i j : ℕ) (s : Set) (vs ms : List ℕ) (old new : Outs) → Enumerated s vs ms old (Err (Commuting i j)) new → FirstCommuting (modes s) i j
 unfolding enumeration_checked
 enumeration_pair i j s vs ms old new h =
     let m = modes s in

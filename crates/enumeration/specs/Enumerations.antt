@@ -1,7 +1,6 @@
 -- What mode enumeration answers and leaves.
 use Rattle.std.specs.Prelude.{ℕ, ◌*◌, ◌≡◌, List, [], ◌∷◌, ◌++◌, Bool, not, ◌||◌, length, drop}
-use Rattle.refusal.specs.declared.Answer.{Answer}
-use Rattle.refusal.specs.Numbers.{Paper, answered}
+use Rattle.refusal.specs.Numbers.{Paper, Answer, answered}
 use Rattle.refusal.specs.Table.{Lent, ◌gives◌, ◌names◌, first_of, ◌of◌, short, on_done, past_two}
 use Rattle.algebra.specs.Modes.{vacuum_rule, commuting_pair}
 use Rattle.algebra.specs.Choices.{dependent}

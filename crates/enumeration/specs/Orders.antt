@@ -1,5 +1,5 @@
 -- Mode enumeration: which map is a permutation, and the rows of the modes in their new order.
-use Rattle.std.specs.Prelude.{ℕ, zero, suc, ◌+◌, ◌*◌, ◌/◌, ◌%◌, List, [], ◌∷◌, ◌++◌, Bool, not, ◌&&◌, eqb, ltb, get_or}
+use Rattle.std.specs.Prelude.{ℕ, zero, suc, ◌+◌, ◌*◌, ◌/◌, ◌%◌, List, [], ◌∷◌, ◌++◌, Bool, not, ◌&&◌, eqb, ltb, get_or, take, drop}
 use Rattle.refusal.specs.Search.{some_below, all_below}
 use Rattle.dense_block.specs.Words.{term_of}
 
@@ -22,7 +22,7 @@ abbrev pub old_row : List ℕ → ℕ → ℕ
 old_row ms k = 2 * get_or ms (k / 2) 0 + k % 2
 
 -- the lists f 0, f 1, .. below n, one after the other
-abbrev pub joined : ℕ → (ℕ → List ℕ) → List ℕ
+abbrev pub joined : {A : Type 0} → ℕ → (ℕ → List A) → List A
 joined zero f = []
 joined (suc k) f = joined k f ++ f k
 
@@ -33,3 +33,7 @@ enumerated_words w n ms xs = joined (2 * n) (λ k. term_of w xs (old_row ms k))
 -- and their phases
 unfoldable pub enumerated_phases : ℕ → List ℕ → List ℕ → List ℕ
 enumerated_phases n ms ps = joined (2 * n) (λ k. get_or ps (old_row ms k) 0 ∷ [])
+
+-- what each mode has, `size` elements, in the new order: the words of its two rows, or their phases
+abbrev pub enumerated_blocks : {A : Type 0} → ℕ → ℕ → List ℕ → List A → List A
+enumerated_blocks size n ms xs = joined n (λ i. take size (drop (get_or ms i 0 * size) xs))

@@ -1,16 +1,14 @@
 -- The structs of numbers that stand for answers, and what an exported function promises by them.
-use Rattle.std.specs.Prelude.{ℕ, zero, suc, ◌≤◌, ◌<◌, ◌≡◌, List, Float}
-use Rattle.refusal.specs.Numbers.{bare, paper, answered}
-use Rattle.refusal.specs.declared.Answer.{Answer}
+use Rattle.std.specs.Prelude.{ℕ, zero, suc, ◌≤◌, ◌<◌, ◌≡◌, List, Float, Result}
+use Rattle.refusal.specs.Numbers.{Answer, bare, answered}
 use Rattle.refusal.specs.declared.Refusal.{Refusal}
 use Rattle.dense_block.specs.Words.{digit}
+use Rattle.pauli.specs.declared.Phase.{Phase}
+use Rattle.pauli.specs.declared.Coefficient.{Coefficient}
+use Rattle.pauli.specs.declared.Meeting.{Meeting}
 use Rattle.pauli.specs.declared.Marked.{Marked}
 use Rattle.pauli.specs.declared.Marked.TheVariants.{Real, Imag}
-use Rattle.pauli.specs.declared.Product.{Product}
 use Rattle.pauli.specs.Product.{product_paper}
-use Rattle.majorana.specs.declared.Encoded.{Encoded}
-use Rattle.products.specs.declared.Multiplied.{Multiplied}
-use Rattle.products.specs.declared.RealMultiplied.{RealMultiplied}
 use Rattle.majorana.specs.Codes.{encoded_paper}
 use Rattle.products.specs.Products.{multiplied_paper, real_paper}
 use Rattle.trees.specs.declared.Named.{Named}
@@ -33,21 +31,18 @@ pub record Tells {A C : Type 0} (told : A → C) (P : A → Type 0) (r : C) : Ty
 abbrev pub OneOutcome : {A C E : Type 0} → (A → C) → (E → A → Type 0) → Type 0
 OneOutcome {A} {C} {E} told P = (d e : E) (r s : C) → Tells told (P d) r → Tells told (P e) s → (d ≡ e) × (r ≡ s)
 
--- the number of a refusal, and the pair of 10
-abbrev pub refusal_told : Refusal → RopethistleAnswer
-refusal_told r = record { number = (paper r).number; first = (paper r).first; second = (paper r).second }
-
+-- the number of an answer, and the pair of 10
 abbrev pub answer_told : Answer → RopethistleAnswer
 answer_told a = record { number = (answered a).number; first = (answered a).first; second = (answered a).second }
 
-abbrev pub encoded_told : Encoded → RopethistlePhase
+abbrev pub encoded_told : Result Phase Refusal → RopethistlePhase
 encoded_told e = record { number = (encoded_paper e).told.number; phase = (encoded_paper e).phase }
 
 -- 1 if the two rows commute, and 0 if they do not or the product is refused
-abbrev pub product_told : Product → RopethistleMultiplied
+abbrev pub product_told : Result Meeting Refusal → RopethistleMultiplied
 product_told p = record { number = (product_paper p).told.number; phase = (product_paper p).phase; commute = digit (product_paper p).commute }
 
-abbrev pub multiplied_told : Multiplied → RopethistleProduct
+abbrev pub multiplied_told : Result (Phase × Coefficient) Refusal → RopethistleProduct
 multiplied_told m = record { number = (multiplied_paper m).told.number; phase = (multiplied_paper m).phase; re = (multiplied_paper m).coefficient.re; im = (multiplied_paper m).coefficient.im }
 
 -- a marked number: 0 real, 1 imaginary
@@ -59,7 +54,7 @@ abbrev pub value : Marked → Float
 value (Real x) = x
 value (Imag x) = x
 
-abbrev pub real_told : RealMultiplied → RopethistleRealProduct
+abbrev pub real_told : Result (Phase × Marked) Refusal → RopethistleRealProduct
 real_told m = record { number = (real_paper m).told.number; phase = (real_paper m).phase; imaginary = mark (real_paper m).coefficient; value = value (real_paper m).coefficient }
 
 -- ---- a named tree, given by a number

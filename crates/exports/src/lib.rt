@@ -1,7 +1,8 @@
 // The calls for programs in C and Rust: `include/ropethistle.h` and `include/ropethistle.rs` declare them.
 //
-// Each exported function hands its arguments to the call behind it and the numbers of its answer back, and promises what that call promises. A slice comes as a
-// pointer and then a length.
+// Each exported function hands its arguments to the call behind it and the numbers of its answer back, and promises what
+// that call promises. The C interface keeps each parameter apart, a slice as a pointer and then a length, and the two
+// calls on flatpacks two.
 
 #![tactic(auto)]
 
@@ -22,12 +23,14 @@ ghost use Rattle.refusal.specs.Numbers.{answered};
 ghost use Rattle.exports.specs.Flags.{flags};
 ghost use Rattle.exports.specs.Behind.{Tells, answer_told, encoded_told, product_told, multiplied_told, real_told, slices, NumberBuilt};
 
-use pauli::{Coefficient, Phase};
-use refusal::{Answer, Refusal};
+use majorana::RowSet;
+use pauli::{Coefficient, Phase, Row};
+use refusal::Refusal;
 use told::{
     RopethistleAnswer, RopethistleMultiplied, RopethistlePhase, RopethistleProduct,
     RopethistleRealProduct,
 };
+use trees::Flatpack;
 
 // majorana::check_vacuum
 #[unsafe(no_mangle)]
@@ -41,7 +44,14 @@ pub extern "C" fn ropethistle_check_vacuum(
 ) -> RopethistleAnswer
     ensures { Tells answer_told (λ a. answered a ≡ vacuum_checked (given modes qubits x.now z.now phases.now) vacuum.now) result }
 {
-    told::answer(majorana::check_vacuum(modes, qubits, x, z, phases, vacuum))
+    let set = RowSet {
+        modes,
+        qubits,
+        x,
+        z,
+        phases,
+    };
+    majorana::check_vacuum(set, vacuum).into()
 }
 
 // majorana::check_rows
@@ -57,7 +67,14 @@ pub extern "C" fn ropethistle_check_rows(
 ) -> RopethistleAnswer
     ensures { Tells answer_told (λ a. RowsChecked (given modes qubits x.now z.now phases.now) vacuum.now room.old a room.new) result }
 {
-    told::answer(majorana::check_rows(modes, qubits, x, z, phases, vacuum, room))
+    let set = RowSet {
+        modes,
+        qubits,
+        x,
+        z,
+        phases,
+    };
+    majorana::check_rows(set, vacuum, room).into()
 }
 
 // majorana::determine_vacuum_state
@@ -73,7 +90,14 @@ pub extern "C" fn ropethistle_determine_vacuum_state(
 ) -> RopethistleAnswer
     ensures { Tells answer_told (λ a. Solves (given modes qubits x.now z.now phases.now) vacuum.old room.old a vacuum.new room.new) result }
 {
-    told::answer(majorana::determine_vacuum_state(modes, qubits, x, z, phases, vacuum, room))
+    let set = RowSet {
+        modes,
+        qubits,
+        x,
+        z,
+        phases,
+    };
+    majorana::determine_vacuum_state(set, vacuum, room).into()
 }
 
 // majorana::new
@@ -89,7 +113,14 @@ pub extern "C" fn ropethistle_new(
 ) -> RopethistleAnswer
     ensures { Tells answer_told (λ a. Makes (given modes qubits x.now z.now phases.now) vacuum.old room.old a vacuum.new room.new) result }
 {
-    told::answer(majorana::new(modes, qubits, x, z, phases, vacuum, room))
+    let set = RowSet {
+        modes,
+        qubits,
+        x,
+        z,
+        phases,
+    };
+    majorana::new(set, vacuum, room).into()
 }
 
 // enumeration::apply_mode_enumeration
@@ -110,9 +141,14 @@ pub extern "C" fn ropethistle_apply_mode_enumeration(
 ) -> RopethistleAnswer
     ensures { Tells answer_told (λ a. Enumerated (given modes qubits x.now z.now phases.now) vacuum.now map.now (outs ox.old oz.old ophases.old ovacuum.old room.old) a (outs ox.new oz.new ophases.new ovacuum.new room.new)) result }
 {
-    told::answer(enumeration::apply_mode_enumeration(
-        modes, qubits, x, z, phases, vacuum, map, ox, oz, ophases, ovacuum, room,
-    ))
+    let set = RowSet {
+        modes,
+        qubits,
+        x,
+        z,
+        phases,
+    };
+    enumeration::apply_mode_enumeration(set, vacuum, map, ox, oz, ophases, ovacuum, room).into()
 }
 
 // majorana::try_encode
@@ -129,7 +165,14 @@ pub extern "C" fn ropethistle_try_encode(
 ) -> RopethistlePhase
     ensures { Tells encoded_told (λ a. Encodes (given modes qubits x.now z.now phases.now) vacuum.now list.now out.old a out.new) result }
 {
-    told::encoded(majorana::try_encode(modes, qubits, x, z, phases, vacuum, list, out))
+    let set = RowSet {
+        modes,
+        qubits,
+        x,
+        z,
+        phases,
+    };
+    majorana::try_encode(set, vacuum, list, out).into()
 }
 
 // majorana::decode_zbasis_state
@@ -146,7 +189,14 @@ pub extern "C" fn ropethistle_decode_zbasis_state(
 ) -> RopethistleAnswer
     ensures { Tells answer_told (λ a. Decodes (given modes qubits x.now z.now phases.now) vacuum.now string.now out.old a out.new) result }
 {
-    told::answer(majorana::decode_zbasis_state(modes, qubits, x, z, phases, vacuum, string, out))
+    let set = RowSet {
+        modes,
+        qubits,
+        x,
+        z,
+        phases,
+    };
+    majorana::decode_zbasis_state(set, vacuum, string, out).into()
 }
 
 // products::product
@@ -165,8 +215,14 @@ pub extern "C" fn ropethistle_product(
 ) -> RopethistleProduct
     ensures { Tells multiplied_told (λ a. Multiplies (given modes qubits x.now z.now phases.now) numbers.now (record { re = re; im = im }) ox.old oz.old a ox.new oz.new) result }
 {
-    let c = Coefficient { re, im };
-    told::multiplied(products::product(modes, qubits, x, z, phases, numbers, c, ox, oz))
+    let set = RowSet {
+        modes,
+        qubits,
+        x,
+        z,
+        phases,
+    };
+    products::product(set, numbers, Coefficient { re, im }, ox, oz).into()
 }
 
 // products::product_real
@@ -184,7 +240,14 @@ pub extern "C" fn ropethistle_product_real(
 ) -> RopethistleRealProduct
     ensures { Tells real_told (λ a. RealMultiplies (given modes qubits x.now z.now phases.now) numbers.now c ox.old oz.old a ox.new oz.new) result }
 {
-    told::real(products::product_real(modes, qubits, x, z, phases, numbers, c, ox, oz))
+    let set = RowSet {
+        modes,
+        qubits,
+        x,
+        z,
+        phases,
+    };
+    products::product_real(set, numbers, c, ox, oz).into()
 }
 
 // pauli::multiply
@@ -200,11 +263,19 @@ pub extern "C" fn ropethistle_multiply(
     ox: &mut [u64],
     oz: &mut [u64],
 ) -> RopethistleMultiplied
-    ensures { Tells product_told (λ a. pauli.Multiplied (pauli.given columns left lx.now lz.now right rx.now rz.now ox.old oz.old) a ox.new oz.new) result }
+    ensures { Tells product_told (λ a. pauli.Multiplied (pauli.given columns (pauli.lent_row left lx.now lz.now) (pauli.lent_row right rx.now rz.now) ox.old oz.old) a ox.new oz.new) result }
 {
-    let l = Phase { power: left };
-    let r = Phase { power: right };
-    told::product(pauli::multiply(columns, l, lx, lz, r, rx, rz, ox, oz))
+    let left = Row {
+        phase: Phase { power: left },
+        x: lx,
+        z: lz,
+    };
+    let right = Row {
+        phase: Phase { power: right },
+        x: rx,
+        z: rz,
+    };
+    pauli::multiply(columns, left, right, ox, oz).into()
 }
 
 // ternarytree::from_flatpack, a slot being filled unless its byte is 0.
@@ -223,18 +294,12 @@ pub extern "C" fn ropethistle_from_flatpack(
     ensures { Tells answer_told (λ a. trees.FlatBuilt (trees.given true modes qubits entries.now (flags modes filled.now) x.old z.old phases.old vacuum.old room.old) a x.new z.new phases.new vacuum.new room.new) result }
 {
     let mut set = [false; 768];
-    let n = flags::read(modes, filled, &mut set);
-    told::answer(ternarytree::from_flatpack(
+    let flat = Flatpack {
         modes,
-        qubits,
         entries,
-        &set[..n],
-        x,
-        z,
-        phases,
-        vacuum,
-        room,
-    ))
+        filled: flags::read(modes, filled, &mut set),
+    };
+    ternarytree::from_flatpack(flat, qubits, x, z, phases, vacuum, room).into()
 }
 
 // ternarytree::from_flatpack_naive, likewise.
@@ -253,21 +318,16 @@ pub extern "C" fn ropethistle_from_flatpack_naive(
     ensures { Tells answer_told (λ a. trees.FlatBuilt (trees.given false modes qubits entries.now (flags modes filled.now) x.old z.old phases.old vacuum.old room.old) a x.new z.new phases.new vacuum.new room.new) result }
 {
     let mut set = [false; 768];
-    let n = flags::read(modes, filled, &mut set);
-    told::answer(ternarytree::from_flatpack_naive(
+    let flat = Flatpack {
         modes,
-        qubits,
         entries,
-        &set[..n],
-        x,
-        z,
-        phases,
-        vacuum,
-        room,
-    ))
+        filled: flags::read(modes, filled, &mut set),
+    };
+    ternarytree::from_flatpack_naive(flat, qubits, x, z, phases, vacuum, room).into()
 }
 
-// ternarytree::from_name, the tree given by a number: 0 Jordan-Wigner, 1 parity, 2 Bravyi-Kitaev, 3 JKMN; another is refused by 1.
+// ternarytree::from_name, the tree given by a number: 0 Jordan-Wigner, 1 parity, 2 Bravyi-Kitaev, 3 JKMN; another is
+// refused by 1.
 #[unsafe(no_mangle)]
 pub extern "C" fn ropethistle_from_name(
     tree: usize,
@@ -281,19 +341,10 @@ pub extern "C" fn ropethistle_from_name(
 ) -> RopethistleAnswer
     ensures { Tells answer_told (λ a. NumberBuilt tree modes qubits (slices x.old z.old phases.old vacuum.old room.old) a (slices x.new z.new phases.new vacuum.new room.new)) result }
 {
-    if 3 < tree {
-        return told::answer(Answer::Refused(Refusal::Size));
-    }
-    told::answer(ternarytree::from_name(
-        told::named(tree),
-        modes,
-        qubits,
-        x,
-        z,
-        phases,
-        vacuum,
-        room,
-    ))
+    let Some(named) = told::named(tree) else {
+        return Err(Refusal::Size).into();
+    };
+    ternarytree::from_name(named, modes, qubits, x, z, phases, vacuum, room).into()
 }
 
 // maxnto::maxnto
@@ -306,5 +357,5 @@ pub extern "C" fn ropethistle_maxnto(
 ) -> RopethistleAnswer
     ensures { Tells answer_told (λ a. maxnto.Built (maxnto.given modes x.old z.old phases.old) a x.new z.new phases.new) result }
 {
-    told::answer(maxnto::maxnto(modes, x, z, phases))
+    maxnto::maxnto(modes, x, z, phases).into()
 }

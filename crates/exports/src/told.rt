@@ -1,13 +1,10 @@
 // Answers as structs of numbers.
 
-ghost use Rattle.std.specs.Prelude.{◌≡◌, ◌≤◌};
-ghost use Rattle.dense_block.specs.Words.{digit};
-ghost use Rattle.exports.specs.Behind.{refusal_told, answer_told, encoded_told, product_told, multiplied_told, real_told, mark, value, named_by};
+ghost use Rattle.std.specs.Prelude.{◌≡◌, ◌≤◌, ◌<◌, MatchOption};
+ghost use Rattle.exports.specs.Behind.{answer_told, encoded_told, product_told, multiplied_told, real_told, named_by};
 
-use majorana::Encoded;
-use pauli::{Marked, Product};
-use products::{Multiplied, RealMultiplied};
-use refusal::{Answer, Refusal};
+use pauli::{Coefficient, Marked, Meeting, Phase};
+use refusal::Refusal;
 use trees::Named;
 
 // The number of an answer, and the pair of 10; 0 and 0 in every other answer.
@@ -19,6 +16,23 @@ pub struct RopethistleAnswer {
     pub second: usize,
 }
 
+impl From<Result<(), Refusal>> for RopethistleAnswer {
+    ghost from_gives = { λ a r. r ≡ answer_told a };
+
+    fn from(answer: Result<(), Refusal>) -> RopethistleAnswer {
+        let number = usize::from(refusal::number(&answer));
+        let (first, second) = match answer {
+            Err(Refusal::Commuting(first, second)) => (first, second),
+            _ => (0, 0),
+        };
+        RopethistleAnswer {
+            number,
+            first,
+            second,
+        }
+    }
+}
+
 // The number of an answer, and the phase of a state; 0 unless it is done.
 #[repr(C)]
 #[derive(Clone, Copy)]
@@ -27,13 +41,50 @@ pub struct RopethistlePhase {
     pub phase: usize,
 }
 
-// The number of an answer, the phase of the product of two rows, and whether the rows commute (1 or 0); 0 and 0 unless it is done.
+impl From<Result<Phase, Refusal>> for RopethistlePhase {
+    ghost from_gives = { λ a r. r ≡ encoded_told a };
+
+    fn from(answer: Result<Phase, Refusal>) -> RopethistlePhase {
+        match answer {
+            Ok(phase) => RopethistlePhase {
+                number: 0,
+                phase: usize::from(phase.power),
+            },
+            Err(why) => RopethistlePhase {
+                number: usize::from(why.number()),
+                phase: 0,
+            },
+        }
+    }
+}
+
+// The number of an answer, the phase of the product of two rows, and whether the rows commute (1 or 0); 0 and 0 unless
+// it is done.
 #[repr(C)]
 #[derive(Clone, Copy)]
 pub struct RopethistleMultiplied {
     pub number: usize,
     pub phase: usize,
     pub commute: usize,
+}
+
+impl From<Result<Meeting, Refusal>> for RopethistleMultiplied {
+    ghost from_gives = { λ a r. r ≡ product_told a };
+
+    fn from(answer: Result<Meeting, Refusal>) -> RopethistleMultiplied {
+        match answer {
+            Ok(met) => RopethistleMultiplied {
+                number: 0,
+                phase: usize::from(met.phase.power),
+                commute: usize::from(met.commute),
+            },
+            Err(why) => RopethistleMultiplied {
+                number: usize::from(why.number()),
+                phase: 0,
+                commute: 0,
+            },
+        }
+    }
 }
 
 // The number of an answer, the phase of a product, and its coefficient; 0, 0 and 0 unless it is done.
@@ -46,6 +97,27 @@ pub struct RopethistleProduct {
     pub im: f64,
 }
 
+impl From<Result<(Phase, Coefficient), Refusal>> for RopethistleProduct {
+    ghost from_gives = { λ a r. r ≡ multiplied_told a };
+
+    fn from(answer: Result<(Phase, Coefficient), Refusal>) -> RopethistleProduct {
+        match answer {
+            Ok((phase, c)) => RopethistleProduct {
+                number: 0,
+                phase: usize::from(phase.power),
+                re: c.re,
+                im: c.im,
+            },
+            Err(why) => RopethistleProduct {
+                number: usize::from(why.number()),
+                phase: 0,
+                re: 0.0,
+                im: 0.0,
+            },
+        }
+    }
+}
+
 // The same with one number, marked real (0) or imaginary (1); real 0 unless it is done.
 #[repr(C)]
 #[derive(Clone, Copy)]
@@ -56,151 +128,34 @@ pub struct RopethistleRealProduct {
     pub value: f64,
 }
 
-fn wide(k: u8) -> usize
-    ensures { result ≡ k }
-{
-    k as usize
-}
+impl From<Result<(Phase, Marked), Refusal>> for RopethistleRealProduct {
+    ghost from_gives = { λ a r. r ≡ real_told a };
 
-// 1 for yes, 0 for no.
-fn yes(b: bool) -> usize
-    ensures { result ≡ digit b }
-{
-    b as usize
-}
-
-// A refusal in numbers.
-fn refusal(why: Refusal) -> RopethistleAnswer
-    ensures { result ≡ refusal_told why }
-{
-    let number = wide(why.number());
-    let Refusal::Commuting(first, second) = why else {
-        return RopethistleAnswer {
-            number,
-            first: 0,
-            second: 0,
+    fn from(answer: Result<(Phase, Marked), Refusal>) -> RopethistleRealProduct {
+        let number = usize::from(refusal::number(&answer));
+        let (phase, imaginary, value) = match answer {
+            Ok((phase, Marked::Real(x))) => (phase.power, 0, x),
+            Ok((phase, Marked::Imag(x))) => (phase.power, 1, x),
+            Err(_) => (0, 0, 0.0),
         };
-    };
-    RopethistleAnswer {
-        number,
-        first,
-        second,
-    }
-}
-
-pub fn answer(a: Answer) -> RopethistleAnswer
-    ensures { result ≡ answer_told a }
-{
-    match a {
-        Answer::Done => RopethistleAnswer {
-            number: 0,
-            first: 0,
-            second: 0,
-        },
-        Answer::Refused(why) => refusal(why),
-    }
-}
-
-pub fn encoded(e: Encoded) -> RopethistlePhase
-    ensures { result ≡ encoded_told e }
-{
-    match e {
-        Encoded::Done(f) => RopethistlePhase {
-            number: 0,
-            phase: wide(f.power),
-        },
-        Encoded::Refused(why) => RopethistlePhase {
-            number: wide(why.number()),
-            phase: 0,
-        },
-    }
-}
-
-// The answer of pauli::multiply.
-pub fn product(p: Product) -> RopethistleMultiplied
-    ensures { result ≡ product_told p }
-{
-    match p {
-        Product::Done(f, c) => RopethistleMultiplied {
-            number: 0,
-            phase: wide(f.power),
-            commute: yes(c),
-        },
-        Product::Refused(why) => RopethistleMultiplied {
-            number: wide(why.number()),
-            phase: 0,
-            commute: 0,
-        },
-    }
-}
-
-// That of products::product.
-pub fn multiplied(m: Multiplied) -> RopethistleProduct
-    ensures { result ≡ multiplied_told m }
-{
-    match m {
-        Multiplied::Done(f, c) => RopethistleProduct {
-            number: 0,
-            phase: wide(f.power),
-            re: c.re,
-            im: c.im,
-        },
-        Multiplied::Refused(why) => RopethistleProduct {
-            number: wide(why.number()),
-            phase: 0,
-            re: 0.0,
-            im: 0.0,
-        },
-    }
-}
-
-// A real or an imaginary number of a done product.
-fn marked(phase: usize, c: Marked) -> RopethistleRealProduct
-    ensures { result ≡ record { number = 0; phase = phase; imaginary = mark c; value = value c } }
-{
-    match c {
-        Marked::Real(x) => RopethistleRealProduct {
-            number: 0,
-            phase,
-            imaginary: 0,
-            value: x,
-        },
-        Marked::Imag(x) => RopethistleRealProduct {
-            number: 0,
-            phase,
-            imaginary: 1,
-            value: x,
-        },
-    }
-}
-
-pub fn real(m: RealMultiplied) -> RopethistleRealProduct
-    ensures { result ≡ real_told m }
-{
-    match m {
-        RealMultiplied::Done(f, c) => marked(wide(f.power), c),
-        RealMultiplied::Refused(why) => RopethistleRealProduct {
-            number: wide(why.number()),
-            phase: 0,
-            imaginary: 0,
-            value: 0.0,
-        },
+        RopethistleRealProduct {
+            number,
+            phase: usize::from(phase),
+            imaginary,
+            value,
+        }
     }
 }
 
 // The tree of a number.
-pub fn named(tree: usize) -> Named
-    requires { tree ≤ 3 }
-    ensures { result ≡ named_by tree }
+pub fn named(tree: usize) -> Option<Named>
+    ensures { MatchOption result (3 < tree) (λ t. (tree ≤ 3) × (t ≡ named_by tree)) }
 {
-    if tree == 0 {
-        return Named::JordanWigner;
+    match tree {
+        0 => Some(Named::JordanWigner),
+        1 => Some(Named::Parity),
+        2 => Some(Named::BravyiKitaev),
+        3 => Some(Named::Jkmn),
+        _ => None,
     }
-    if tree == 1 {
-        return Named::Parity;
-    }
-    if tree == 2 {
-        return Named::BravyiKitaev;
-    }
-    Named::Jkmn
 }

@@ -1,10 +1,11 @@
 -- The moves of a reader on a line: what a tab, a line feed and any other byte make of the fields so far. Field by field, through the cases of a field.
 use Prim.Native.Nat.{ℕ, zero, suc, ◌≤◌}
 use native.Mathlib.Omega.{arith}
-use mathlib.Core.Path.{◌≡◌, refl, ◌∙◌}
+use mathlib.Core.Path.{◌≡◌, refl, sym, ◌∙◌}
 use mathlib.Core.List.{List, [], ◌∷◌, ◌++◌}
 use mathlib.Core.Bool.{Bool, true, false, cond}
 use lib.Dec.{eqb}
+use Rattle.std.specs.Prelude.{Option, Some, None, unwrap_or, option_map}
 use Rattle.flatpack_text.specs.declared.read.Field.{Field}
 use Rattle.flatpack_text.specs.declared.read.Field.TheVariants.{Nothing, Dash, Number, Bad}
 use Rattle.flatpack_text.specs.declared.read.State.{State}
@@ -87,6 +88,32 @@ tab_after n (a ∷ b ∷ c ∷ []) f =
     slot_any tabbed (stopped n) (field_of b) _ _ (λ x.
     slot_any tabbed (stopped n) (field_of c) _ _ (λ y. tab_z n q (slot_number x) (slot_number y) (field_of f)) refl) refl) refl
 tab_after n (a ∷ b ∷ c ∷ d ∷ fs) f = refl
+
+-- a tab from any state: what is made of the field, if it is one that may stand there
+option_qubit : {A : Type 0} (f : Field) (good : ℕ → A) (bad : A) → as_qubit f good bad ≡ unwrap_or (option_map good (as_qubit f Some None)) bad
+option_qubit Nothing good bad = refl
+option_qubit Dash good bad = refl
+option_qubit (Number n) good bad = refl
+option_qubit Bad good bad = refl
+
+option_slot : {A : Type 0} (f : Field) (good : ℕ → A) (bad : A) → as_slot f (λ z. good (slot_number z)) bad ≡ unwrap_or (option_map good (as_slot f (λ z. Some (slot_number z)) None)) bad
+option_slot Nothing good bad = refl
+option_slot Dash good bad = refl
+option_slot (Number n) good bad = refl
+option_slot Bad good bad = refl
+
+module _ (s : State) {r : Option ℕ} where
+  pub tab_at_0 : s.fields ≡ 0 → r ≡ as_qubit s.field Some None → unwrap_or (option_map (λ q. on_line s.entries 1 q 0 0 Nothing) r) (stopped s.entries) ≡ tabbed s
+  unfolding tabbed
+  tab_at_0 k p = rw (k, p) (sym (option_qubit s.field (λ q. on_line s.entries 1 q 0 0 Nothing) (stopped s.entries)))
+
+  pub tab_at_1 : s.fields ≡ 1 → r ≡ as_slot s.field (λ z. Some (slot_number z)) None → unwrap_or (option_map (λ x. on_line s.entries 2 s.qubit x 0 Nothing) r) (stopped s.entries) ≡ tabbed s
+  unfolding tabbed
+  tab_at_1 k p = rw (k, p) (sym (option_slot s.field (λ x. on_line s.entries 2 s.qubit x 0 Nothing) (stopped s.entries)))
+
+  pub tab_at_2 : s.fields ≡ 2 → r ≡ as_slot s.field (λ z. Some (slot_number z)) None → unwrap_or (option_map (λ y. on_line s.entries 3 s.qubit s.x y Nothing) r) (stopped s.entries) ≡ tabbed s
+  unfolding tabbed
+  tab_at_2 k p = rw (k, p) (sym (option_slot s.field (λ y. on_line s.entries 3 s.qubit s.x y Nothing) (stopped s.entries)))
 
 -- ---- any other byte
 
@@ -270,15 +297,17 @@ not_last (suc (suc zero)) f good bad h = refl
 not_last (suc (suc (suc zero))) f good bad h = absurd (h refl)
 not_last (suc (suc (suc (suc k)))) f good bad h = refl
 
-pub last_is : {A : Type 0} (k : ℕ) (f g : Field) (good : Slot → A) (bad : A) → k ≡ 3 → f ≡ g → at_last k f good bad ≡ as_slot g good bad
-last_is k f g good bad p q = rw (p, q)
+-- where the last field is as an Option
+pub last_option : {A : Type 0} (k : ℕ) (f : Field) (good : ℕ → A) (bad : A) {r : Option ℕ} → k ≡ 3 → r ≡ as_slot f (λ z. Some (slot_number z)) None
+    → unwrap_or (option_map good r) bad ≡ at_last k f (λ z. good (slot_number z)) bad
+last_option k f good bad p q = rw (p, q) (sym (option_slot f good bad))
 
-pub not_first : (k : ℕ) (f : Field) (n : ℕ) → (k ≡ 0 → ⊥) → ended_at k f n ≡ faulty n
-not_first zero f n h = absurd (h refl)
+pub not_first : (k : ℕ) (f : Field) (n : ℕ) → (k ≡ 0 → f ≡ Nothing → ⊥) → ended_at k f n ≡ faulty n
+not_first zero Nothing n h = absurd (h refl refl)
+not_first zero Dash n h = refl
+not_first zero (Number m) n h = refl
+not_first zero Bad n h = refl
 not_first (suc k) f n h = refl
-
-pub first_is : (k : ℕ) (f g : Field) (n : ℕ) → k ≡ 0 → f ≡ g → ended_at k f n ≡ ended_at 0 g n
-first_is k f g n p q = rw (p, q)
 
 pub last_any : {A C : Type 0} (h : A → C) (c : C) (k : ℕ) (f : Field) (good : Slot → A) (bad : A) → ((z : Slot) → h (good z) ≡ c) → h bad ≡ c → h (at_last k f good bad) ≡ c
 last_any h c zero f good bad p q = q

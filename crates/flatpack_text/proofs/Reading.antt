@@ -6,17 +6,17 @@ use mathlib.Core.Path.{◌≡◌, refl, sym, ap, ◌∙◌}
 use mathlib.Core.List.{List, [], ◌∷◌, ◌++◌, append-nil, append_assoc}
 use mathlib.Core.Bool.{Bool, true, false, cond}
 use lib.Dec.{eqb, ltb}
-use lib.ListN.{length, get_or, take, drop, length-append, drop_of_length-le}
+use lib.ListN.{length, take, drop, length-append, drop_of_length-le}
 use borrow.Author.Tests.{eqb-true, ltb-true, ltb-false, lt-ltb, le-ltb}
 use Rattle.dense_block.specs.Words.{copied}
 use Rattle.flatpack_text.specs.declared.read.State.{State}
-use Rattle.flatpack_text.specs.declared.read.Text.{Text}
-use Rattle.flatpack_text.specs.declared.read.Text.TheVariants.{Entries, Malformed}
+use Rattle.std.specs.Prelude.{Result, Ok, Err}
+use Rattle.flatpack_text.specs.declared.read.Malformed.{Malformed}
 use Rattle.flatpack_text.specs.Text.{Cut, cut, lines, fields, field_of, Entry, Line, entry, no_entry, line_of, Lines, with_line, lines_of, judged, parse}
 use Rattle.flatpack_text.specs.Machine.{most, Told, text_paper, told, slot_number, numbers_of, kept, stopped, line_after, after}
 use Rattle.flatpack_text.specs.Moves.{more, next, tabbed, line_ended, kept_at, line_kept, step, step_kept, fed, fed_kept, finished}
 use Rattle.flatpack_text.specs.Calls.{Feeds, Finishes}
-use lib.Seq.{drop-cons, sets, length-sets}
+use lib.Seq.{sets, length-sets}
 use Rattle.flatpack_text.proofs.Tables.{copied_nil, table_more}
 use Rattle.flatpack_text.proofs.Cuts.{closed, longer, cut_closed, cut_longer}
 use Rattle.flatpack_text.proofs.Moves.{tab_after, goes_on, byte_after, on_entry, fresh, end_after, entered, kept_after, fault_at, begun_after, last_any}
@@ -229,21 +229,8 @@ unfolding kept cut lines_of
 start_kept d = copied_nil d
 
 -- what an answer to a state says of a text that leads to it
-pub answers : (s : State) (a : Text) → text_paper a ≡ finished s → Finishes s a
+pub answers : (s : State) (a : Result ℕ Malformed) → text_paper a ≡ finished s → Finishes s a
 answers s a h = record { answer = h; text_answer = λ t e. h ∙ ap finished e ∙ finished_after t }
-
--- the loop over a chunk: what is left of it leads to what the whole leads to
-pub fed_next : (s : State) {r : State} (u : List ℕ) (i : ℕ) → i < length u → r ≡ step s (get_or u i 0) → fed r (drop (i + 1) u) ≡ fed s (drop i u)
-fed_next s u i h p = rw (p, add-one i, drop-cons u i 0 h)
-
-pub kept_next : (s : State) {r : State} (u d : List ℕ) {e : List ℕ} (i : ℕ) → i < length u → r ≡ step s (get_or u i 0) → e ≡ step_kept s (get_or u i 0) d → fed_kept r (drop (i + 1) u) e ≡ fed_kept s (drop i u) d
-kept_next s u d i h p q = rw (p, q, add-one i, drop-cons u i 0 h)
-
-pub fed_all : (s : State) (u : List ℕ) (i : ℕ) → length u ≤ i → fed s (drop i u) ≡ s
-fed_all s u i h = rw (drop_of_length-le u h)
-
-pub kept_all : (s : State) (u d : List ℕ) (i : ℕ) → length u ≤ i → fed_kept s (drop i u) d ≡ d
-kept_all s u d i h = rw (drop_of_length-le u h)
 
 -- a store changes no length
 length_kept_at : (n q x y z : ℕ) (d : List ℕ) → length (kept_at n q x y z d) ≡ length d
@@ -262,21 +249,23 @@ length_step s b d = go (eqb b 10)
     go true = last_any length (length d) s.fields s.field _ _ (λ z. length_kept_at s.entries s.qubit s.x s.y (slot_number z) d) refl
     go false = refl
 
--- what feeding leaves, and what that says of a text that leads to the state before it
-pub feeds : (s : State) (u d : List ℕ) (r : State) (e : List ℕ) → r ≡ fed s u → e ≡ fed_kept s u d → Feeds s u d r e
-feeds s u d r e p q =
+-- what feeding leaves at the end of the chunk, and what that says of a text that leads to the state before it
+pub feeds : (s : State) (u d : List ℕ) (r : State) (e : List ℕ) (i : ℕ) → length u ≤ i → fed r (drop i u) ≡ fed s u → fed_kept r (drop i u) e ≡ fed_kept s u d → Feeds s u d r e
+feeds s u d r e i h p q =
+    let f : r ≡ fed s u = rw (drop_of_length-le u h) at p in
+    let k : e ≡ fed_kept s u d = rw (drop_of_length-le u h) at q in
     record {
-      state = p;
-      entries = q;
-      text_state = λ t h. p ∙ ap (λ (s : State). fed s u) h ∙ fed_after t u;
-      text_entries = λ t o h k. q ∙ ap (λ (s : State). fed_kept s u d) h ∙ ap (fed_kept (after t) u) k ∙ kept_fed t u o;
+      state = f;
+      entries = k;
+      text_state = λ t h. f ∙ ap (λ (s : State). fed s u) h ∙ fed_after t u;
+      text_entries = λ t o h l. k ∙ ap (λ (s : State). fed_kept s u d) h ∙ ap (fed_kept (after t) u) l ∙ kept_fed t u o;
     }
 
 -- ---- one outcome
 
 -- an answer is known by its number and values
-pub answer_is : (a b : Text) → text_paper a ≡ text_paper b → a ≡ b
-answer_is (Entries n) (Entries m) h = ap (λ (p : Told). Entries p.entries) h
-answer_is (Entries n) (Malformed k) h = let z : ◌≡◌ {A = ℕ} 0 16 = ap (λ (p : Told). p.number) h in absurd (omega arith)
-answer_is (Malformed k) (Entries n) h = let z : ◌≡◌ {A = ℕ} 16 0 = ap (λ (p : Told). p.number) h in absurd (omega arith)
-answer_is (Malformed k) (Malformed j) h = ap (λ (p : Told). Malformed p.line) h
+pub answer_is : (a b : Result ℕ Malformed) → text_paper a ≡ text_paper b → a ≡ b
+answer_is (Ok n) (Ok m) h = ap (λ (p : Told). Ok p.entries) h
+answer_is (Ok n) (Err e) h = let z : ◌≡◌ {A = ℕ} 0 16 = ap (λ (p : Told). p.number) h in absurd (omega arith)
+answer_is (Err e) (Ok n) h = let z : ◌≡◌ {A = ℕ} 16 0 = ap (λ (p : Told). p.number) h in absurd (omega arith)
+answer_is (Err e) (Err f) h = ap (λ (p : Told). Err (record { line = p.line })) h

@@ -11,7 +11,8 @@ use mathlib.Core.List.{List, [], ◌∷◌, ◌++◌, append-nil, append_assoc}
 use mathlib.Core.Bool.{Bool, true, false}
 use Rattle.refusal.proofs.Outcome.{one_outcome}
 use Rattle.flatpack_text.specs.declared.read.State.{State}
-use Rattle.flatpack_text.specs.declared.read.Text.{Text}
+use Rattle.std.specs.Prelude.{Result}
+use Rattle.flatpack_text.specs.declared.read.Malformed.{Malformed}
 use Rattle.flatpack_text.specs.Text.{lines, fields, Entry, Line, entry, no_entry, line_of, Lines, with_line, lines_of, judged, parse}
 use Rattle.flatpack_text.specs.Machine.{told, kept, after}
 use Rattle.flatpack_text.specs.Calls.{Feeds, Finishes, Reads}
@@ -22,10 +23,10 @@ use Rattle.flatpack_text.proofs.Reading.{start_kept, answer_is}
 pub feed_outcome : {s r q : State} {u d e f : List ℕ} → Feeds s u d r e → Feeds s u d q f → (r ≡ q) × (e ≡ f)
 feed_outcome a b = (one_outcome a.state b.state, one_outcome a.entries b.entries)
 
-pub finish_outcome : {s : State} {a b : Text} → Finishes s a → Finishes s b → a ≡ b
+pub finish_outcome : {s : State} {a b : Result ℕ Malformed} → Finishes s a → Finishes s b → a ≡ b
 finish_outcome {s} {a} {b} f g = answer_is a b (one_outcome f.answer g.answer)
 
-pub read_outcome : {t d e f : List ℕ} {a b : Text} → Reads t d a e → Reads t d b f → (a ≡ b) × (e ≡ f)
+pub read_outcome : {t d e f : List ℕ} {a b : Result ℕ Malformed} → Reads t d a e → Reads t d b f → (a ≡ b) × (e ≡ f)
 read_outcome {t} {d} {e} {f} {a} {b} x y = (answer_is a b (one_outcome x.answer y.answer), one_outcome x.entries y.entries)
 
 -- ---- chunks
@@ -47,13 +48,13 @@ fed_on t o h k (one {u = u} {us = us} f run) =
     let g = fed_on (t ++ u) o (f.text_state t h) (f.text_entries t o h k) run in
     (g.0 ∙ ap after (append_assoc t u (joined us)), g.1 ∙ ap (λ (l : List ℕ). kept l o) (append_assoc t u (joined us)))
 
-pub chunks_read : {us : List (List ℕ)} {s r : State} {d e : List ℕ} {a : Text} → s ≡ after [] → FedInTurn s d us r e → Finishes r a → Reads (joined us) d a e
+pub chunks_read : {us : List (List ℕ)} {s r : State} {d e : List ℕ} {a : Result ℕ Malformed} → s ≡ after [] → FedInTurn s d us r e → Finishes r a → Reads (joined us) d a e
 chunks_read {us} {s} {r} {d} h run f =
     let g = fed_on [] d h (sym (start_kept d)) run in
     record { answer = f.text_answer (joined us) g.0; entries = g.1 }
 
 -- two ways to cut a text
-pub chunks_any : {us vs : List (List ℕ)} {s r q : State} {d e f : List ℕ} {a b : Text} → joined us ≡ joined vs → s ≡ after []
+pub chunks_any : {us vs : List (List ℕ)} {s r q : State} {d e f : List ℕ} {a b : Result ℕ Malformed} → joined us ≡ joined vs → s ≡ after []
     → FedInTurn s d us r e → Finishes r a → FedInTurn s d vs q f → Finishes q b → (a ≡ b) × (e ≡ f)
 chunks_any {us} {vs} {s} {r} {q} {d} {e} {f} {a} {b} same h run fin run' fin' =
     let x = chunks_read h run fin in

@@ -1,7 +1,7 @@
 -- What the calls that read promise.
-use Rattle.std.specs.Prelude.{ℕ, ◌≡◌, List, ◌++◌}
+use Rattle.std.specs.Prelude.{ℕ, ◌≡◌, List, ◌++◌, Result}
 use Rattle.flatpack_text.specs.declared.read.State.{State}
-use Rattle.flatpack_text.specs.declared.read.Text.{Text}
+use Rattle.flatpack_text.specs.declared.read.Malformed.{Malformed}
 use Rattle.flatpack_text.specs.Text.{parse}
 use Rattle.flatpack_text.specs.Machine.{text_paper, told, kept, after}
 use Rattle.flatpack_text.specs.Moves.{fed, fed_kept, finished}
@@ -15,11 +15,11 @@ pub record Feeds (s : State) (u d : List ℕ) (r : State) (e : List ℕ) : Type 
   pub text_entries : (t o : List ℕ) → s ≡ after t → d ≡ kept t o → e ≡ kept (t ++ u) o
 
 -- finish: the answer a from the state s. If s is what the text t leads to, then a is what the definition says of t
-pub record Finishes (s : State) (a : Text) : Type 0 where
+pub record Finishes (s : State) (a : Result ℕ Malformed) : Type 0 where
   pub answer : text_paper a ≡ finished s
   pub text_answer : (t : List ℕ) → s ≡ after t → text_paper a ≡ told (parse t)
 
 -- read: the answer a to the text t, and the table e where d was lent
-pub record Reads (t d : List ℕ) (a : Text) (e : List ℕ) : Type 0 where
+pub record Reads (t d : List ℕ) (a : Result ℕ Malformed) (e : List ℕ) : Type 0 where
   pub answer : text_paper a ≡ told (parse t)
   pub entries : e ≡ kept t d

@@ -1,11 +1,10 @@
 -- What reading a text comes to, by the definition of well-formed text: what is handed back, the table of entries, and the state after it.
-use Rattle.std.specs.Prelude.{ℕ, ◌+◌, min, List, [], ◌∷◌, cond, length, take}
+use Rattle.std.specs.Prelude.{ℕ, ◌+◌, min, List, [], ◌∷◌, cond, length, take, Result, Ok, Err}
 use Rattle.dense_block.specs.Words.{copied}
 use Rattle.flatpack_text.specs.declared.read.Field.{Field}
 use Rattle.flatpack_text.specs.declared.read.Field.TheVariants.{Nothing, Dash, Number, Bad}
 use Rattle.flatpack_text.specs.declared.read.State.{State}
-use Rattle.flatpack_text.specs.declared.read.Text.{Text}
-use Rattle.flatpack_text.specs.declared.read.Text.TheVariants.{Entries, Malformed}
+use Rattle.flatpack_text.specs.declared.read.Malformed.{Malformed}
 use Rattle.flatpack_text.specs.Text.{lines, fields, field_of, Slot, empty, numbered, as_qubit, as_slot, Entry, lines_of, Parsed, well_formed, malformed}
 
 -- ---- what is handed back
@@ -20,9 +19,9 @@ pub record Told : Type 0 where
   pub entries : ℕ
   pub line : ℕ
 
-abbrev pub text_paper : Text → Told
-text_paper (Entries n) = record { number = 0; entries = n; line = 0 }
-text_paper (Malformed k) = record { number = 16; entries = 0; line = k }
+abbrev pub text_paper : Result ℕ Malformed → Told
+text_paper (Ok n) = record { number = 0; entries = n; line = 0 }
+text_paper (Err e) = record { number = 16; entries = 0; line = e.line }
 
 abbrev pub told : Parsed → Told
 told (well_formed es) = record { number = 0; entries = min (length es) most; line = 0 }

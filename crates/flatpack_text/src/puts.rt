@@ -2,20 +2,11 @@
 
 ghost use Rattle.std.specs.Prelude.{◌≡◌, set};
 
-// One number of a table.
-pub fn put(table: &mut [usize], i: usize, v: usize)
+// One number or flag of a table. By index: of a slice that is written through `get_mut` a proof knows the length alone.
+pub fn put<T: Copy>(table: &mut [T], i: usize, v: T)
     ensures { table.new ≡ set table.old i v }
 {
     if i < table.len() {
         table[i] = v;
-    }
-}
-
-// One flag.
-pub fn put_flag(flags: &mut [bool], i: usize, on: bool)
-    ensures { flags.new ≡ set flags.old i on }
-{
-    if i < flags.len() {
-        flags[i] = on;
     }
 }

@@ -3,7 +3,7 @@ use Prim.Native.Nat.{ℕ}
 use mathlib.Core.Path.{◌≡◌, refl}
 use mathlib.Core.List.{List, [], ◌∷◌}
 use lib.Count.{ones, ones_in}
-use Rattle.refusal.specs.declared.Answer.TheVariants.{Done as Fine, Refused as No}
+use Rattle.std.specs.Prelude.{Ok, Err}
 use Rattle.refusal.specs.declared.Refusal.TheVariants.{Commuting, Undecodable, Unencodable}
 use Rattle.refusal.specs.Numbers.{Paper, bare}
 use Rattle.refusal.specs.Search.{some_below, all_below, least_below, first_pair}
@@ -11,7 +11,6 @@ use Rattle.algebra.specs.Rows.{bit, common, dot, clash}
 use Rattle.algebra.specs.Modes.{vacuum_rule, commuting_pair, e, d, paired, empty}
 use Rattle.algebra.specs.Coding as algebra
 use Rattle.dense_block.specs.Words.{strays}
-use Rattle.majorana.specs.declared.Encoded.TheVariants.{Done, Refused}
 use Rattle.majorana.specs.Sets.{Set, given, bad_size, bad_row_at, bad_rows}
 use Rattle.majorana.specs.Checks.{vacuum_short, vacuum_bad, vacuum_checked, rows_short, rows_checked, RowsChecked}
 use Rattle.majorana.specs.Codes.{encoded, encode_short, encode_bad, encode_refused, Encodes, decoded, decode_short, decode_bad, decode_refused, Decodes}
@@ -68,7 +67,7 @@ vacuum_rule_lem = (refl, refl, refl, refl, refl, refl)
 -- ---- check_rows
 
 -- rows XI, YI, ZX, YI: row 0 anticommutes with all, row 1 with row 2 and not with row 3. The room is zero over its eight words
-rows_pair : RowsChecked (given 2 2 (1 ∷ 1 ∷ 2 ∷ 1 ∷ []) (0 ∷ 1 ∷ 1 ∷ 1 ∷ []) (0 ∷ 1 ∷ 0 ∷ 1 ∷ [])) zeros (9 ∷ 9 ∷ 9 ∷ 9 ∷ 9 ∷ 9 ∷ 9 ∷ 9 ∷ 7 ∷ []) (No (Commuting 1 3)) (0 ∷ 0 ∷ 0 ∷ 0 ∷ 0 ∷ 0 ∷ 0 ∷ 0 ∷ 7 ∷ [])
+rows_pair : RowsChecked (given 2 2 (1 ∷ 1 ∷ 2 ∷ 1 ∷ []) (0 ∷ 1 ∷ 1 ∷ 1 ∷ []) (0 ∷ 1 ∷ 0 ∷ 1 ∷ [])) zeros (9 ∷ 9 ∷ 9 ∷ 9 ∷ 9 ∷ 9 ∷ 9 ∷ 9 ∷ 7 ∷ []) (Err (Commuting 1 3)) (0 ∷ 0 ∷ 0 ∷ 0 ∷ 0 ∷ 0 ∷ 0 ∷ 0 ∷ 7 ∷ [])
 unfolding rows_checked rows_short vacuum_bad bad_size bad_rows bad_row_at strays commuting_pair first_pair least_below some_below clash common ones ones_in
 rows_pair = record { answer = refl; left = refl }
 
@@ -79,7 +78,7 @@ abbrev told : Set → List ℕ → List ℕ → List ℕ → Paper
 told = encode_refused
 
 -- list 1 encodes to 10 with phase 0; the word past the first stays
-encode_done : Encodes (one 0 1) zeros (1 ∷ []) (9 ∷ 7 ∷ []) (Done (record { power = 0 })) (1 ∷ 7 ∷ [])
+encode_done : Encodes (one 0 1) zeros (1 ∷ []) (9 ∷ 7 ∷ []) (Ok (record { power = 0 })) (1 ∷ 7 ∷ [])
 unfolding encoded encode_refused encode_short encode_bad bad_size bad_rows bad_row_at strays some_below algebra.encode algebra.encode_from algebra.occupy bit empty paired e d dot common ones ones_in
 encode_done = record { answer = refl; string = refl }
 
@@ -128,7 +127,7 @@ unfolding vacuum_checked vacuum_short vacuum_bad bad_size bad_rows bad_row_at st
 twice_vacuum = refl
 
 -- the string is as it was
-present_bits : Encodes twice zeros (3 ∷ []) (9 ∷ []) (Refused Unencodable) (9 ∷ [])
+present_bits : Encodes twice zeros (3 ∷ []) (9 ∷ []) (Err Unencodable) (9 ∷ [])
 unfolding encoded encode_refused encode_short encode_bad bad_size bad_rows bad_row_at strays some_below algebra.encode algebra.encode_from algebra.occupy bit empty paired e d dot common ones ones_in
 present_bits = record { answer = refl; string = refl }
 
@@ -139,7 +138,7 @@ abbrev read : Set → List ℕ → List ℕ → List ℕ → Paper
 read = decode_refused
 
 -- 10 decodes to 1; the word past the first stays
-decode_done : Decodes (one 0 1) zeros (1 ∷ []) (9 ∷ 7 ∷ []) Fine (1 ∷ 7 ∷ [])
+decode_done : Decodes (one 0 1) zeros (1 ∷ []) (9 ∷ 7 ∷ []) (Ok tt) (1 ∷ 7 ∷ [])
 unfolding decoded decode_refused decode_short decode_bad bad_size bad_rows bad_row_at strays some_below algebra.decode algebra.decode_from algebra.seen paired e d dot common ones ones_in
 decode_done = record { answer = refl; list = refl }
 
@@ -171,7 +170,7 @@ unfolding decode_refused decode_short decode_bad bad_size bad_rows bad_row_at st
 decode_value = (refl, refl, refl, refl, refl, refl)
 
 -- 14: 01 does not lead back to 00, and the list is as it was; d is odd; X parts differ
-decode_foreign : Decodes (one 0 1) zeros (2 ∷ []) (9 ∷ []) (No Undecodable) (9 ∷ [])
+decode_foreign : Decodes (one 0 1) zeros (2 ∷ []) (9 ∷ []) (Err Undecodable) (9 ∷ [])
 unfolding decoded decode_refused decode_short decode_bad bad_size bad_rows bad_row_at strays some_below algebra.decode algebra.decode_from algebra.seen paired e d dot common ones ones_in
 decode_foreign = record { answer = refl; list = refl }
 

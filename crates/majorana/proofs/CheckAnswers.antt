@@ -5,10 +5,9 @@ use native.Mathlib.Omega.{arith}
 use mathlib.Core.Path.{◌≡◌, refl, sym, ap, ◌∙◌}
 use mathlib.Core.List.{List, [], ◌∷◌}
 use mathlib.Core.Bool.{Bool, true, false, not}
+use Rattle.std.specs.Prelude.{Err}
 use Rattle.refusal.specs.declared.Refusal.TheVariants.{Size, Short}
-use Rattle.refusal.specs.declared.Answer.{Answer}
-use Rattle.refusal.specs.declared.Answer.TheVariants.{Refused}
-use Rattle.refusal.specs.Numbers.{Paper, answered}
+use Rattle.refusal.specs.Numbers.{Answer, Paper, answered}
 use Rattle.refusal.specs.Search.{Pair, pair, no_pair}
 use Rattle.refusal.specs.Table.{◌gives◌, ◌names◌, first_of, past_two}
 use Rattle.refusal.proofs.Outcome.{one_outcome, answered_injective}
@@ -39,11 +38,11 @@ task_number m v false new old = go (commuting_pair m) (dependent m) (vacuum_rule
     go no_pair false false = refl
 
 module _ (s : Set) (vs room : List ℕ) where
-  pub rows_size : bad_size s.n s.q ≡ true → RowsChecked s vs room (Refused Size) room
+  pub rows_size : bad_size s.n s.q ≡ true → RowsChecked s vs room (Err Size) room
   unfolding rows_checked
   rows_size h = record { answer = rw h; left = rw h }
 
-  pub rows_short_lem : bad_size s.n s.q ≡ false → rows_short s vs room ≡ true → RowsChecked s vs room (Refused Short) room
+  pub rows_short_lem : bad_size s.n s.q ≡ false → rows_short s vs room ≡ true → RowsChecked s vs room (Err Short) room
   unfolding rows_checked
   rows_short_lem h k = record { answer = rw (h, k); left = rw (h, k) }
 

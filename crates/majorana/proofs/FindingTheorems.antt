@@ -8,8 +8,8 @@ use mathlib.Core.List.{List, [], ◌∷◌}
 use mathlib.Core.Bool.{Bool, true, false, not}
 use borrow.Author.Tests.{eqb-true, eqb-false}
 use lib.Dec.{eqb}
+use Rattle.std.specs.Prelude.{Ok, Err}
 use Rattle.refusal.specs.declared.Refusal.TheVariants.{Commuting}
-use Rattle.refusal.specs.declared.Answer.TheVariants.{Done, Refused}
 use Rattle.refusal.specs.Numbers.{Paper, paper}
 use Rattle.refusal.specs.Search.{Pair, pair, no_pair}
 use Rattle.refusal.specs.Table.{Rule, ◌gives◌, ◌names◌, first_of, on_done}
@@ -69,14 +69,14 @@ module _ (i j : ℕ) where
       go false false false false no_pair false true k h = absurd (omega arith)
       go false false false false no_pair false false k h = absurd (omega arith)
 
-  pub check_pair : (s : Set) (vs room after : List ℕ) → RowsChecked s vs room (Refused (Commuting i j)) after → FirstCommuting (modes s) i j
+  pub check_pair : (s : Set) (vs room after : List ℕ) → RowsChecked s vs room (Err (Commuting i j)) after → FirstCommuting (modes s) i j
   unfolding rows_checked
   check_pair s vs room after h =
       let m = modes s in
       commuting_first m i j (pair_named (bad_size s.n s.q) (rows_short s vs room) (vacuum_bad s vs) false (commuting_pair m) (dependent m) (vacuum_rule m (bits s.q vs))
       (h.answer ∙ without_none (bad_size s.n s.q) (rows_short s vs room) (vacuum_bad s vs) _))
 
-  pub new_pair : (s : Set) (vs room after left : List ℕ) → Makes s vs room (Refused (Commuting i j)) after left → FirstCommuting (modes s) i j
+  pub new_pair : (s : Set) (vs room after left : List ℕ) → Makes s vs room (Err (Commuting i j)) after left → FirstCommuting (modes s) i j
   unfolding new_checked
   new_pair s vs room after left h =
       let m = modes s in
@@ -113,14 +113,14 @@ solvable_passed false false true some rules h = absurd (omega arith)
 solvable_passed false false false true rules h = refl
 solvable_passed false false false false rules h = absurd (omega arith)
 
-pub solve_least : (s : Set) (vs room after left : List ℕ) → Solves s vs room Done after left → LeastVacuum (modes s) s.q (bits s.q after)
+pub solve_least : (s : Set) (vs room after left : List ℕ) → Solves s vs room (Ok tt) after left → LeastVacuum (modes s) s.q (bits s.q after)
 unfolding solved
 solve_least s vs room after left h =
     let m = modes s in
     written_least s vs after (solvable_passed (bad_size s.n s.q) (solve_short s vs room) (bad_set s) (solvable m s.q) [] (ap (λ (p : Paper). p.number) h.answer))
     (h.string ∙ ap (λ (p : Paper). on_done p (filled (width s) (vacuum m s.q) vs) vs) (sym h.answer))
 
-pub new_least : (s : Set) (vs room after left : List ℕ) → Makes s vs room Done after left → LeastVacuum (modes s) s.q (bits s.q after)
+pub new_least : (s : Set) (vs room after left : List ℕ) → Makes s vs room (Ok tt) after left → LeastVacuum (modes s) s.q (bits s.q after)
 unfolding new_checked
 new_least s vs room after left h =
     let m = modes s in

@@ -3,7 +3,7 @@ use Prim.Native.Nat.{ℕ, zero, suc, ◌+◌, ◌-◌, ◌*◌, ◌/◌, ◌%◌
 use native.Mathlib.Omega.{arith}
 use mathlib.Core.Path.{◌≡◌, refl, sym, ap, ◌∙◌}
 use mathlib.Core.List.{List}
-use mathlib.Core.Bool.{true, false, not, beq}
+use mathlib.Core.Bool.{true, not, ◌&&◌, beq}
 use borrow.Author.Tests.{eqb-true}
 use lib.Dec.{eqb, ltb}
 use lib.ListN.{length, get_or}
@@ -83,24 +83,19 @@ module _ {n w : ℕ} {xs zs ps : List ℕ} (held : Held n w xs zs ps) (i : ℕ) 
   unfolding d
   difference_is = ap (λ (k : ℕ). k % 4) (omega (arith, p_lo))
 
-  pub same_x : Words xs → alike (term_of w xs (2 * i)) (term_of w xs (2 * i + 1)) ≡ eqb (value (term_of w xs (2 * i))) (value (term_of w xs (2 * i + 1)))
-  same_x px =
+  pub same_x : alike (term_of w xs (2 * i)) (term_of w xs (2 * i + 1)) ≡ eqb (value (term_of w xs (2 * i))) (value (term_of w xs (2 * i + 1)))
+  same_x =
       alike_value (term_of w xs (2 * i)) (term_of w xs (2 * i + 1)) (length_term w xs (2 * i) x_lo ∙ sym (length_term w xs (2 * i + 1) x_hi))
-      (words_term w xs (2 * i) px) (words_term w xs (2 * i + 1) px)
+      (words_term w xs (2 * i) held.x_words) (words_term w xs (2 * i + 1) held.x_words)
 
-  pub unlike : Words xs → alike (term_of w xs (2 * i)) (term_of w xs (2 * i + 1)) ≡ false → false ≡ paired (modes_at n w xs zs ps) i
+  pub paired_is : (alike (term_of w xs (2 * i)) (term_of w xs (2 * i + 1)) && eqb (d (modes_at n w xs zs ps) i % 2) 0) ≡ paired (modes_at n w xs zs ps) i
   unfolding paired
-  unlike px h = rw (sym (same_x px) ∙ h)
-
-  pub paired_by : Words xs → (c : ℕ) → alike (term_of w xs (2 * i)) (term_of w xs (2 * i + 1)) ≡ true → c ≡ d (modes_at n w xs zs ps) i
-      → eqb (c % 2) 0 ≡ paired (modes_at n w xs zs ps) i
-  unfolding paired
-  paired_by px c h k = rw (sym (same_x px) ∙ h, k)
+  paired_is = rw same_x
 
   -- both Z parts' parities are that of e
   pub reads_is : (t u : ℕ) → u ≡ (dot (value (term_of w zs (2 * i))) t + dot (value (term_of w zs (2 * i + 1))) t) % 2 → u ≡ dot (e (modes_at n w xs zs ps) i) t
   unfolding e
   reads_is t u h = h ∙ sym (dot_xor_l (value (term_of w zs (2 * i))) (value (term_of w zs (2 * i + 1))) t)
 
-  pub moved : (t : List ℕ) → length t ≡ w → Words xs → Words t → value (xors t (term_of w xs (2 * i))) ≡ state (lo (modes_at n w xs zs ps) i) (value t)
-  moved t len px pt = value_xors t (term_of w xs (2 * i)) (omega (arith, length_term w xs (2 * i) x_lo)) pt (words_term w xs (2 * i) px)
+  pub moved : (t : List ℕ) → length t ≡ w → Words t → value (xors t (term_of w xs (2 * i))) ≡ state (lo (modes_at n w xs zs ps) i) (value t)
+  moved t len pt = value_xors t (term_of w xs (2 * i)) (omega (arith, length_term w xs (2 * i) x_lo)) pt (words_term w xs (2 * i) held.x_words)

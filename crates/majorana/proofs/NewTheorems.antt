@@ -6,8 +6,7 @@ use native.Mathlib.Omega.{arith}
 use mathlib.Core.Path.{◌≡◌, refl, sym, ap, ◌∙◌}
 use mathlib.Core.List.{List, [], ◌∷◌}
 use mathlib.Core.Bool.{Bool, true, false, not}
-use Rattle.refusal.specs.declared.Answer.{Answer}
-use Rattle.refusal.specs.Numbers.{Paper, bare, answered}
+use Rattle.refusal.specs.Numbers.{Answer, Paper, bare, answered}
 use Rattle.refusal.specs.Search.{Pair, pair, no_pair}
 use Rattle.refusal.specs.Table.{◌gives◌, ◌names◌, first_of, on_done}
 use Rattle.algebra.specs.Modes.{Majorana, paired, vacuum_rule, commuting_pair}

@@ -8,15 +8,16 @@ use borrow.Author.Tests.{eqb-false, ltb-false, le-ltb}
 use lib.Dec.{eqb, ltb}
 use lib.ListN.{length, get_or, take}
 use Rattle.refusal.specs.Search.{some_below}
-use Rattle.refusal.specs.Table.{Lent, short}
+use Rattle.refusal.specs.Table.{Lent, outside, short}
 use Rattle.refusal.proofs.Rooms.{Hold, hold}
 use Rattle.refusal.proofs.Bools.{or_left, or_right}
 use Rattle.refusal.proofs.Searches.{none_at, some_or}
 use Rattle.dense_block.specs.Words.{value, words_for, term_of, strays, strays_in}
+use Rattle.dense_block.proofs.Values.{Words}
 use Rattle.dense_block.proofs.Terms.{row_within}
 use Rattle.dense_block.proofs.Strays.{below_of}
 use Rattle.majorana.specs.Sets.{bad_size, set_lent, many_or_short, bad_row_at, bad_rows, many_or_bad}
-use Rattle.majorana.specs.Held.{Fits}
+use Rattle.majorana.specs.Held.{Fits, Held}
 
 module _ {n w : ℕ} {xs zs ps : List ℕ} (fits : Fits n w xs zs ps) (k : ℕ) (low : k < 2 * n) where
   pub x_row : k * w + w ≤ length xs
@@ -45,8 +46,28 @@ in_size n q h =
       qubits_high = ltb-false 256 q (or_right (eqb q 0) (ltb 256 q) u);
     }
 
+-- modes, and then qubits
+pub sizes : (n q : ℕ) → bad_size n q ≡ (outside n || outside q)
+unfolding bad_size
+sizes n q = go (eqb n 0) (ltb 256 n) (eqb q 0 || ltb 256 q)
+  where
+    go : (a b c : Bool) → (a || (b || c)) ≡ ((a || b) || c)
+    go true b c = refl
+    go false b c = refl
+
 pub few_words : (q : ℕ) → q ≤ 256 → words_for q ≤ 4
 few_words q h = omega arith
+
+-- what passing 1 leaves known, with the number of words
+pub record Entered (n q w : ℕ) : Type 0 where
+  pub size : InSize n q
+  pub some : 0 < w
+  pub few : w ≤ 4
+
+pub entered : (n q w : ℕ) → bad_size n q ≡ false → w ≡ words_for q → Entered n q w
+entered n q w h e =
+    let i = in_size n q h in
+    record { size = i; some = omega (arith, i.qubits_low); few = omega (arith, few_words q i.qubits_high) }
 
 -- local words start at zero
 pub zeros : (k : ℕ) → value (take k (0 ∷ 0 ∷ 0 ∷ 0 ∷ [])) ≡ 0
@@ -59,6 +80,17 @@ zeros (suc (suc (suc (suc k)))) = rest k
     rest : (k : ℕ) → value (0 ∷ 0 ∷ 0 ∷ 0 ∷ take k []) ≡ 0
     rest zero = refl
     rest (suc k) = refl
+
+-- ---- tests one after another
+
+pub first_holds : {a : Bool} (b : Bool) → a ≡ true → (a || b) ≡ true
+first_holds b h = rw h
+
+pub second_holds : {a b : Bool} → a ≡ false → b ≡ true → (a || b) ≡ true
+second_holds h k = rw (h, k)
+
+pub none_holds : {a b : Bool} → a ≡ false → b ≡ false → (a || b) ≡ false
+none_holds h k = rw (h, k)
 
 -- ---- rows that are not bad
 
@@ -92,6 +124,10 @@ module _ (n q w : ℕ) (xs zs ps : List ℕ) (h : bad_rows n q w xs zs ps ≡ fa
 
   pub z_below : value (term_of w zs k) < 2 ^ q
   z_below = below_of (term_of w zs k) q (or_right (strays (term_of w xs k) q) (strays (term_of w zs k) q) no_stray)
+
+-- rows that lie in their slices, and are not bad, are held
+pub held_of : (n q w : ℕ) (xs zs ps : List ℕ) → Fits n w xs zs ps → bad_rows n q w xs zs ps ≡ false → Words xs → Words zs → Held n w xs zs ps
+held_of n q w xs zs ps fits h px pz = record { fits = fits; x_words = px; z_words = pz; small = phase_small n q w xs zs ps h }
 
 -- ---- lengths: the row set's own, and then the call's others
 

@@ -25,10 +25,10 @@ use lib.Count.{ones, ones_in}
 use lib.ListN.{length, get_or}
 use lib.Pow.{pow_mono}
 use lib.Seq.{take_all}
-use Rattle.refusal.specs.declared.Answer.{Answer}
-use Rattle.refusal.specs.declared.Answer.TheVariants.{Done as Fine, Refused as No}
+use Rattle.std.specs.Prelude.{Result, Ok, Err}
+use Rattle.refusal.specs.declared.Refusal.{Refusal}
 use Rattle.refusal.specs.declared.Refusal.TheVariants.{Undecodable}
-use Rattle.refusal.specs.Numbers.{Paper, bare}
+use Rattle.refusal.specs.Numbers.{Answer, Paper, bare}
 use Rattle.refusal.specs.Search.{all_below, some_below, least_below, Pair, pair, no_pair, first_pair}
 use Rattle.refusal.specs.Table.{◌gives◌, ◌names◌, first_of, ◌of◌, on_done}
 use Rattle.refusal.proofs.Bools.{or_left, or_right, never}
@@ -46,14 +46,12 @@ use Rattle.dense_block.specs.Words.{value, words_of, words_for, filled, strays}
 use Rattle.dense_block.proofs.Values.{value_of_words, length_words_of, words_hold, written_back}
 use Rattle.dense_block.proofs.Strays.{below_of, no_strays}
 use Rattle.pauli.specs.declared.Phase.{Phase}
-use Rattle.majorana.specs.declared.Encoded.{Encoded}
-use Rattle.majorana.specs.declared.Encoded.TheVariants.{Done}
 use Rattle.majorana.specs.Sets.{Set, given, width, modes, trimmed, bits, bad_size, set_lent, bad_row_at, bad_rows, bad_set}
 use Rattle.majorana.specs.Checks.{vacuum_bad, rows_short, rows_checked}
 use Rattle.majorana.specs.Codes.{encoded, unencodable, state_of, phase_of, encode_short, encode_bad, encode_refused, Told, Encodes, decoded, undecodable, list_of, decode_short, decode_bad, decode_refused, Decodes}
 use Rattle.majorana.specs.Accepted.{Sound, Listed, Stringed, EncodedTo, DecodedTo, DecodedFrom, Source, EncodingCall}
 use Rattle.majorana.proofs.SetLaws.{x_below}
-use Rattle.majorana.proofs.CodeAnswers.{encode_run, encode_outcome, decode_found, decode_foreign, decode_outcome}
+use Rattle.majorana.proofs.CodeAnswers.{encode_run, encode_outcome, decode_run, decode_outcome}
 
 -- ---- which sets are accepted
 
@@ -91,7 +89,7 @@ string_low s vs good plain l t f h =
     encoded_below (modes s) l (bits s.q vs) t f h s.q (below_of (trimmed s.q vs) s.q plain)
     (λ i g. x_below s.n s.q (width s) s.xs s.zs s.ps good (2 * i) (omega arith))
 
-pub encode_stands : (s : Set) (vs ls out : List ℕ) (f : Phase) (after : List ℕ) → Encodes s vs ls out (Done f) after → EncodedTo s vs ls out (Done f) after
+pub encode_stands : (s : Set) (vs ls out : List ℕ) (f : Phase) (after : List ℕ) → Encodes s vs ls out (Ok f) after → EncodedTo s vs ls out (Ok f) after
 unfolding encoded encode_refused encode_bad
 encode_stands s vs ls out f after h = go (algebra.encode (modes s) (bits s.q vs) (bits s.n ls)) refl
   where
@@ -101,7 +99,7 @@ encode_stands s vs ls out f after h = go (algebra.encode (modes s) (bits s.q vs)
     tests : (encode_bad s vs ls ≡ false) × (unencodable (encoded s vs ls) ≡ false)
     tests = tests_passed 14 (bad_size s.n s.q) (encode_short s vs ls out) (encode_bad s vs ls) (unencodable (encoded s vs ls)) (ap (λ (p : Paper). p.number) done)
 
-    go : (e : algebra.Encoded) → algebra.encode (modes s) (bits s.q vs) (bits s.n ls) ≡ e → EncodedTo s vs ls out (Done f) after
+    go : (e : algebra.Encoded) → algebra.encode (modes s) (bits s.q vs) (bits s.n ls) ≡ e → EncodedTo s vs ls out (Ok f) after
     go algebra.refused e = absurd (never (ap unencodable e) tests.1)
     go (algebra.done t g) e =
         let strays-both = strays (trimmed s.q vs) s.q || strays (trimmed s.n ls) s.n in
@@ -116,14 +114,14 @@ encode_stands s vs ls out f after h = go (algebra.encode (modes s) (bits s.q vs)
           string = t;
           phase = g;
           run = e;
-          answer = ap Done (λ j. record { power = phase j });
+          answer = ap Ok (λ j. record { power = phase j });
           words = words;
           low = low;
           written = written;
           plain = no_strays (trimmed s.q after) s.q (rw written low);
         }
 
-pub decode_stands : (s : Set) (vs ts out after : List ℕ) → Decodes s vs ts out Fine after → DecodedFrom s vs ts after
+pub decode_stands : (s : Set) (vs ts out after : List ℕ) → Decodes s vs ts out (Ok tt) after → DecodedFrom s vs ts after
 unfolding decoded decode_refused
 decode_stands s vs ts out after h = go (algebra.decode (modes s) (bits s.q vs) (bits s.q ts)) refl
   where
@@ -172,37 +170,37 @@ module _ (s : Set) (vs : List ℕ) (sound : Sound s vs) where
 
   -- the answer to a string that decodes
   decoded_fine : (ts out : List ℕ) (r : Answer) (after : List ℕ) (l : ℕ) → Stringed s ts → decode_short s vs ts out ≡ false → Decodes s vs ts out r after
-      → algebra.decode (modes s) (bits s.q vs) (bits s.q ts) ≡ algebra.found l → (r ≡ Fine) × (after ≡ filled (words_for s.n) l out)
+      → algebra.decode (modes s) (bits s.q vs) (bits s.q ts) ≡ algebra.found l → (r ≡ Ok tt) × (after ≡ filled (words_for s.n) l out)
   unfolding decoded
   decoded_fine ts out r after l plain long h e =
-      let runs : Decodes s vs ts out Fine (filled (words_for s.n) l out) =
-      decode_found s vs ts out sound.size long (decode_good ts plain) (filled (words_for s.n) l out) (rw e) (rw e) in
-      decode_outcome s vs ts out r Fine after (filled (words_for s.n) l out) h runs
+      let runs : Decodes s vs ts out (Ok tt) (filled (words_for s.n) l out) =
+      decode_run s vs ts out sound.size long (decode_good ts plain) (Ok tt) (filled (words_for s.n) l out) (rw e) (rw e) in
+      decode_outcome s vs ts out r (Ok tt) after (filled (words_for s.n) l out) h runs
 
   -- and to one that does not
   decoded_no : (ts out : List ℕ) (r : Answer) (after : List ℕ) → Stringed s ts → decode_short s vs ts out ≡ false → Decodes s vs ts out r after
-      → algebra.decode (modes s) (bits s.q vs) (bits s.q ts) ≡ algebra.foreign → r ≡ No Undecodable
+      → algebra.decode (modes s) (bits s.q vs) (bits s.q ts) ≡ algebra.foreign → r ≡ Err Undecodable
   unfolding decoded
   decoded_no ts out r after plain long h e =
-      let runs : Decodes s vs ts out (No Undecodable) out =
-      decode_foreign s vs ts out sound.size long (decode_good ts plain) out (rw e) (rw e) in
-      (decode_outcome s vs ts out r (No Undecodable) after out h runs).0
+      let runs : Decodes s vs ts out (Err Undecodable) out =
+      decode_run s vs ts out sound.size long (decode_good ts plain) (Err Undecodable) out (rw e) (rw e) in
+      (decode_outcome s vs ts out r (Err Undecodable) after out h runs).0
 
   -- ---- every list encodes
 
-  pub encode_always : (ls out : List ℕ) (r : Encoded) (after : List ℕ) → Listed s ls → encode_short s vs ls out ≡ false → Encodes s vs ls out r after
+  pub encode_always : (ls out : List ℕ) (r : Result Phase Refusal) (after : List ℕ) → Listed s ls → encode_short s vs ls out ≡ false → Encodes s vs ls out r after
       → EncodedTo s vs ls out r after
   unfolding encoded
   encode_always ls out r after listed long h =
       let a = faithful.encodes (bits s.n ls) (below_of (trimmed s.n ls) s.n listed) in
-      let runs : Encodes s vs ls out (Done (record { power = a.1 })) (filled (width s) a.0 out) =
-      encode_run s vs ls out sound.size long (encode_good ls listed) (Done (record { power = a.1 })) (filled (width s) a.0 out) (rw a.2) (rw a.2) in
-      let one = encode_outcome s vs ls out r (Done (record { power = a.1 })) after (filled (width s) a.0 out) h runs in
+      let runs : Encodes s vs ls out (Ok (record { power = a.1 })) (filled (width s) a.0 out) =
+      encode_run s vs ls out sound.size long (encode_good ls listed) (Ok (record { power = a.1 })) (filled (width s) a.0 out) (rw a.2) (rw a.2) in
+      let one = encode_outcome s vs ls out r (Ok (record { power = a.1 })) after (filled (width s) a.0 out) h runs in
       rw (one.0, one.1) (encode_stands s vs ls out (record { power = a.1 }) (filled (width s) a.0 out) runs)
 
   -- ---- decoding gives the list back
 
-  pub decode_back : (ls out dout : List ℕ) (r : Encoded) (after : List ℕ) (t : Answer) (list : List ℕ)
+  pub decode_back : (ls out dout : List ℕ) (r : Result Phase Refusal) (after : List ℕ) (t : Answer) (list : List ℕ)
       → Listed s ls → encode_short s vs ls out ≡ false → Encodes s vs ls out r after
       → decode_short s vs after dout ≡ false → Decodes s vs after dout t list
       → DecodedTo s ls dout t list
@@ -217,27 +215,27 @@ module _ (s : Set) (vs : List ℕ) (sound : Sound s vs) where
   -- ---- it refuses exactly the strings that no list encodes to
 
   module _ (ts out : List ℕ) (r : Answer) (after : List ℕ) (plain : Stringed s ts) (long : decode_short s vs ts out ≡ false) (h : Decodes s vs ts out r after) where
-    settled : ((r ≡ Fine) × Source s vs (bits s.q ts)) ⊎ ((r ≡ No Undecodable) × (Source s vs (bits s.q ts) → ⊥))
+    settled : ((r ≡ Ok tt) × Source s vs (bits s.q ts)) ⊎ ((r ≡ Err Undecodable) × (Source s vs (bits s.q ts) → ⊥))
     settled = go (algebra.decode (modes s) (bits s.q vs) (bits s.q ts)) refl
       where
         go : (o : algebra.Decoded) → algebra.decode (modes s) (bits s.q vs) (bits s.q ts) ≡ o
-            → ((r ≡ Fine) × Source s vs (bits s.q ts)) ⊎ ((r ≡ No Undecodable) × (Source s vs (bits s.q ts) → ⊥))
+            → ((r ≡ Ok tt) × Source s vs (bits s.q ts)) ⊎ ((r ≡ Err Undecodable) × (Source s vs (bits s.q ts) → ⊥))
         go (algebra.found l) e =
             let a = faithful.from l (bits s.q ts) e in
             inl ((decoded_fine ts out r after l plain long h e).0, (l, a.1.0, a.0, a.1.1))
         go algebra.foreign e =
             inr (decoded_no ts out r after plain long h e, λ a. (faithful.refuses (bits s.q ts)).0 e a.0 a.1 a.2 a.3)
 
-    never_both : r ≡ Fine → r ≡ No Undecodable → ⊥
+    never_both : r ≡ Ok tt → r ≡ Err Undecodable → ⊥
     never_both p q = let z : ◌≡◌ {A = ℕ} 0 1 = cc in omega arith
 
-    pub decode_refuses_exactly : (r ≡ No Undecodable) ↔ (Source s vs (bits s.q ts) → ⊥)
+    pub decode_refuses_exactly : (r ≡ Err Undecodable) ↔ (Source s vs (bits s.q ts) → ⊥)
     decode_refuses_exactly = (
       λ e. ⊎_elim (λ p. absurd (never_both p.0 e)) (λ p. p.1) settled,
       λ none. ⊎_elim (λ p. absurd (none p.1)) (λ p. p.0) settled,
     )
 
-    pub decode_done_exactly : (r ≡ Fine) ↔ Source s vs (bits s.q ts)
+    pub decode_done_exactly : (r ≡ Ok tt) ↔ Source s vs (bits s.q ts)
     decode_done_exactly = (
       λ e. ⊎_elim (λ p. p.1) (λ p. absurd (never_both e p.0)) settled,
       λ source. ⊎_elim (λ p. p.0) (λ p. absurd (p.1 source)) settled,
@@ -248,7 +246,7 @@ module _ (s : Set) (vs : List ℕ) (sound : Sound s vs) where
     -- what a call leaves is what its list encodes to
     source_of : EncodingCall s vs ts → Source s vs (bits s.q ts)
     source_of c =
-        let a = encode_always c.list c.out (Done c.phase) c.after c.listed c.long c.promised in
+        let a = encode_always c.list c.out (Ok c.phase) c.after c.listed c.long c.promised in
         (bits s.n c.list, a.phase, below_of (trimmed s.n c.list) s.n c.listed, a.run ∙ ap (λ (x : ℕ). algebra.done x a.phase) (sym a.written ∙ c.leaves))
 
     -- a list in words, and a call on it
@@ -272,22 +270,22 @@ module _ (s : Set) (vs : List ℕ) (sound : Sound s vs) where
           out_words = words_words (width s) 0;
           listed = listed;
           long = enough;
-          promised = encode_run s vs ls room sound.size enough (encode_good ls listed) (Done (record { power = f })) (filled (width s) (bits s.q ts) room) (rw runs) (rw runs);
+          promised = encode_run s vs ls room sound.size enough (encode_good ls listed) (Ok (record { power = f })) (filled (width s) (bits s.q ts) room) (rw runs) (rw runs);
           leaves = written_back s.q (bits s.q ts) room (below_of (trimmed s.q ts) s.q plain);
         }
 
-    pub decode_refuses_uncalled : (r ≡ No Undecodable) ↔ (EncodingCall s vs ts → ⊥)
+    pub decode_refuses_uncalled : (r ≡ Err Undecodable) ↔ (EncodingCall s vs ts → ⊥)
     decode_refuses_uncalled = (
       λ e c. decode_refuses_exactly.0 e (source_of c),
       λ none. decode_refuses_exactly.1 (λ a. none (call_of a)),
     )
 
-    pub decode_done_called : (r ≡ Fine) ↔ EncodingCall s vs ts
+    pub decode_done_called : (r ≡ Ok tt) ↔ EncodingCall s vs ts
     decode_done_called = (λ e. call_of (decode_done_exactly.0 e), λ c. decode_done_exactly.1 (source_of c))
 
   -- ---- no two lists share a string
 
-  pub encode_apart : (ls ks out pout : List ℕ) (r t : Encoded) (after pafter : List ℕ)
+  pub encode_apart : (ls ks out pout : List ℕ) (r t : Result Phase Refusal) (after pafter : List ℕ)
       → Listed s ls → encode_short s vs ls out ≡ false → Encodes s vs ls out r after
       → Listed s ks → encode_short s vs ks pout ≡ false → Encodes s vs ks pout t pafter
       → bits s.q after ≡ bits s.q pafter → bits s.n ls ≡ bits s.n ks
@@ -320,16 +318,16 @@ unfolding vacuum_bad bad_size bad_rows bad_row_at strays commuting_pair first_pa
 parity_sound = record { size = refl; good = refl; rows = majorana_of (modes parity) refl; vacuum = refl }
 
 -- list 11 encodes to 11 with phase 0; the word past the first stays
-pub jordan_wigner_both : Encodes jordan_wigner zeros (3 ∷ []) (9 ∷ 7 ∷ []) (Done (record { power = 0 })) (3 ∷ 7 ∷ [])
+pub jordan_wigner_both : Encodes jordan_wigner zeros (3 ∷ []) (9 ∷ 7 ∷ []) (Ok (record { power = 0 })) (3 ∷ 7 ∷ [])
 unfolding encoded encode_refused encode_short encode_bad bad_size bad_rows bad_row_at strays some_below algebra.encode algebra.encode_from algebra.occupy bit empty paired e d dot common ones ones_in
 jordan_wigner_both = record { answer = refl; string = refl }
 
 -- list 11 encodes to 01 with phase 2
-pub parity_both : Encodes parity zeros (3 ∷ []) (9 ∷ 7 ∷ []) (Done (record { power = 2 })) (2 ∷ 7 ∷ [])
+pub parity_both : Encodes parity zeros (3 ∷ []) (9 ∷ 7 ∷ []) (Ok (record { power = 2 })) (2 ∷ 7 ∷ [])
 unfolding encoded encode_refused encode_short encode_bad bad_size bad_rows bad_row_at strays some_below algebra.encode algebra.encode_from algebra.occupy bit empty paired e d dot common ones ones_in
 parity_both = record { answer = refl; string = refl }
 
 -- and 01 decodes to 11
-pub parity_back : Decodes parity zeros (2 ∷ 7 ∷ []) (9 ∷ 7 ∷ []) Fine (3 ∷ 7 ∷ [])
+pub parity_back : Decodes parity zeros (2 ∷ 7 ∷ []) (9 ∷ 7 ∷ []) (Ok tt) (3 ∷ 7 ∷ [])
 unfolding decoded decode_refused decode_short decode_bad bad_size bad_rows bad_row_at strays some_below algebra.decode algebra.decode_from algebra.seen paired e d dot common ones ones_in
 parity_back = record { answer = refl; list = refl }

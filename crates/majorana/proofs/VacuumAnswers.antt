@@ -3,10 +3,9 @@ use Prim.Native.Nat.{ℕ}
 use mathlib.Core.Path.{◌≡◌, refl, sym, ap, ◌∙◌}
 use mathlib.Core.List.{List, [], ◌∷◌}
 use mathlib.Core.Bool.{Bool, true, false, not}
+use Rattle.std.specs.Prelude.{Err}
 use Rattle.refusal.specs.declared.Refusal.TheVariants.{Size, Short}
-use Rattle.refusal.specs.declared.Answer.{Answer}
-use Rattle.refusal.specs.declared.Answer.TheVariants.{Refused}
-use Rattle.refusal.specs.Numbers.{Paper, answered}
+use Rattle.refusal.specs.Numbers.{Answer, Paper, answered}
 use Rattle.refusal.specs.Search.{Pair, pair, no_pair}
 use Rattle.refusal.specs.Table.{◌gives◌, ◌names◌, first_of, on_done, past_two}
 use Rattle.refusal.proofs.Outcome.{one_outcome, answered_injective}
@@ -46,12 +45,12 @@ new_past bad m q new old = go bad (solvable m q) (commuting_pair m) (dependent m
 -- ---- vacuum solving
 
 module _ (s : Set) (vs room : List ℕ) where
-  pub solve_size : bad_size s.n s.q ≡ true → Solves s vs room (Refused Size) vs room
+  pub solve_size : bad_size s.n s.q ≡ true → Solves s vs room (Err Size) vs room
   unfolding solved
   solve_size h = record { answer = rw h; string = rw h; work = rw h }
 
   module _ (h : bad_size s.n s.q ≡ false) where
-    pub solve_short_lem : solve_short s vs room ≡ true → Solves s vs room (Refused Short) vs room
+    pub solve_short_lem : solve_short s vs room ≡ true → Solves s vs room (Err Short) vs room
     unfolding solved
     solve_short_lem k = record { answer = rw (h, k); string = rw (h, k); work = rw (h, k) }
 
@@ -75,12 +74,12 @@ solve_outcome s vs room r t us xs ys zs a b = (answered_injective (one_outcome a
 -- ---- `new`
 
 module _ (s : Set) (vs room : List ℕ) where
-  pub new_size : bad_size s.n s.q ≡ true → Makes s vs room (Refused Size) vs room
+  pub new_size : bad_size s.n s.q ≡ true → Makes s vs room (Err Size) vs room
   unfolding new_checked
   new_size h = record { answer = rw h; string = rw h; work = rw h }
 
   module _ (h : bad_size s.n s.q ≡ false) where
-    pub new_short : rows_short s vs room ≡ true → Makes s vs room (Refused Short) vs room
+    pub new_short : rows_short s vs room ≡ true → Makes s vs room (Err Short) vs room
     unfolding new_checked
     new_short k = record { answer = rw (h, k); string = rw (h, k); work = rw (h, k) }
 

@@ -8,27 +8,29 @@ use mathlib.Core.List.{List, [], ◌∷◌, ◌++◌, append-nil}
 use lib.Bits.{bit_xor, xor_lt}
 use lib.Pow.{pow_pos, pow_mono}
 use lib.ListN.{length, get_or, set, take, drop, length-append, length-drop, drop_of_length-le}
-use lib.Seq.{length-take-le, take_at, drop_at, drop-drop}
-use Rattle.refusal.specs.declared.Refusal.TheVariants.{Value, NoVacuum}
-use Rattle.refusal.specs.declared.Answer.{Answer}
-use Rattle.refusal.specs.declared.Answer.TheVariants.{Done, Refused}
-use Rattle.refusal.specs.Numbers.{Paper, answered}
+use lib.Seq.{take_at, drop_at, drop-drop}
+use Rattle.std.specs.Prelude.{Ok, Err}
+use Rattle.refusal.specs.declared.Refusal.TheVariants.{NoVacuum}
+use Rattle.refusal.specs.declared.Refusal.{Refusal}
+use Rattle.refusal.specs.Numbers.{Answer, Paper, paper, answered}
+use Rattle.refusal.proofs.Outcome.{refused_number}
 use Rattle.refusal.specs.Table.{if_zero, on_done}
 use Rattle.refusal.specs.Search.{all_below, Least, found, none, least_below}
 use Rattle.refusal.proofs.Searches.{all_at, least_found}
 use Rattle.refusal.proofs.Bools.{never}
 use Rattle.algebra.specs.Modes.{Modes, e, d, paired, vacuum_rule}
 use Rattle.algebra.specs.Solving.{plain, solvable, solved_vacuum}
-use Rattle.dense_block.specs.Words.{value, xors, copied, term_of, words_of, filled}
-use Rattle.dense_block.proofs.Values.{Words, value_of_words}
-use Rattle.dense_block.proofs.Alongs.{length_along, value_xors, copied_whole}
+use Rattle.dense_block.specs.Words.{value, xors, term_of, words_of, filled}
+use Rattle.dense_block.proofs.Values.{value_of_words}
+use Rattle.dense_block.proofs.Alongs.{length_along, value_xors}
 use Rattle.dense_block.proofs.Terms.{words_term, length_term}
 use Rattle.elimination.specs.Solving.{left_at, right_at, is_found, written}
 use Rattle.elimination.proofs.Vacuums.{unpaired_vacuum, unpaired_solvable, solvable_found}
 use Rattle.majorana.specs.Sets.{modes_at, bad_rows}
-use Rattle.majorana.specs.Held.{Fits}
+use Rattle.majorana.specs.Held.{Fits, Held}
 use Rattle.majorana.specs.Rooms.{Same, task_checked, all_paired, equation_of, EquationsLoaded, SolvedLent, NewLent}
 use Rattle.majorana.specs.Vacuums.{vacuum_of, vacuum}
+use Rattle.majorana.proofs.ModeLaws.{d_below}
 use Rattle.majorana.proofs.SetLaws.{z_row, z_below}
 
 -- ---- an equation written
@@ -43,18 +45,11 @@ single [] h = absurd (omega arith)
 single (x ∷ []) h = refl
 single (x ∷ y ∷ t) h = absurd (omega arith)
 
--- a copied to the front of p
-pub front_long : (w : ℕ) (p a l : List ℕ) → w ≤ length p → l ≡ copied (take w p) a → length (take w (l ++ drop w p)) ≡ w
-front_long w p a l h e =
-    let len : length l ≡ w = ap length e ∙ length_along (λ x y. y) (take w p) a ∙ length-take-le w p h in
-    ap length (take_at l (drop w p) w len) ∙ len
-
 -- a copied, b added, and the word behind them set
 pub equation_made : (w : ℕ) (p a b : List ℕ) (right : ℕ) → length a ≡ w → length b ≡ w → length p ≡ w + 1
-    → (l r : List ℕ) → l ≡ copied (take w p) a → r ≡ xors (take w (l ++ drop w p)) b
+    → (l r : List ℕ) → l ≡ a → r ≡ xors (take w (l ++ drop w p)) b
     → set (r ++ drop w (l ++ drop w p)) w right ≡ xors a b ++ (right ∷ [])
-equation_made w p a b right ea eb ep l r hl hr =
-    let la : l ≡ a = hl ∙ copied_whole (take w p) a (length-take-le w p (omega arith) ∙ sym ea) in
+equation_made w p a b right ea eb ep l r la hr =
     let ll : length l ≡ w = ap length la ∙ ea in
     let rb : r ≡ xors a b = hr ∙ ap (λ (t : List ℕ). xors t b) (take_at l (drop w p) w ll ∙ la) in
     let last : drop w (l ++ drop w p) ≡ get_or (drop w p) 0 0 ∷ [] = drop_at l (drop w p) w ll ∙ single (drop w p) (omega (arith, length-drop w p)) in
@@ -70,10 +65,6 @@ length_equation n w xs zs ps i fits h =
 
 -- ---- the equations as the elimination reads them
 
-d_lt : (m : Modes) (i : ℕ) → d m i < 4
-unfolding d
-d_lt m i = omega arith
-
 last_word : (a : List ℕ) (w v : ℕ) → length a ≡ w → get_or (a ++ (v ∷ [])) w 0 ≡ v
 last_word a w v h = ap (λ (k : ℕ). get_or (a ++ (v ∷ [])) k 0) (sym h) ∙ go a
   where
@@ -81,7 +72,7 @@ last_word a w v h = ap (λ (k : ℕ). get_or (a ++ (v ∷ [])) k 0) (sym h) ∙ 
     go [] = refl
     go (b ∷ a) = go a
 
-module _ (n q w : ℕ) (xs zs ps before ws : List ℕ) (fits : Fits n w xs zs ps) (good : bad_rows n q w xs zs ps ≡ false) (words : Words zs) (loaded : EquationsLoaded n w xs zs ps before ws) (i : ℕ) (low : i < n) where
+module _ (n q w : ℕ) (xs zs ps before ws : List ℕ) (held : Held n w xs zs ps) (good : bad_rows n q w xs zs ps ≡ false) (loaded : EquationsLoaded n w xs zs ps before ws) (i : ℕ) (low : i < n) where
   abbrev first : List ℕ
   first = term_of w zs (2 * i)
 
@@ -89,10 +80,10 @@ module _ (n q w : ℕ) (xs zs ps before ws : List ℕ) (fits : Fits n w xs zs ps
   second = term_of w zs (2 * i + 1)
 
   first_long : length first ≡ w
-  first_long = length_term w zs (2 * i) (z_row fits (2 * i) (omega arith))
+  first_long = length_term w zs (2 * i) (z_row held.fits (2 * i) (omega arith))
 
   second_long : length second ≡ w
-  second_long = length_term w zs (2 * i + 1) (z_row fits (2 * i + 1) (omega arith))
+  second_long = length_term w zs (2 * i + 1) (z_row held.fits (2 * i + 1) (omega arith))
 
   both_long : length (xors first second) ≡ w
   both_long = length_along bit_xor first second ∙ first_long
@@ -102,14 +93,14 @@ module _ (n q w : ℕ) (xs zs ps before ws : List ℕ) (fits : Fits n w xs zs ps
   left_loaded =
       ap (λ (t : List ℕ). value (take w t)) (loaded.at i low)
       ∙ ap value (take_at (xors first second) (d (modes_at n w xs zs ps) i / 2 ∷ []) w both_long)
-      ∙ value_xors first second (omega (arith, first_long, second_long)) (words_term w zs (2 * i) words) (words_term w zs (2 * i + 1) words)
+      ∙ value_xors first second (omega (arith, first_long, second_long)) (words_term w zs (2 * i) held.z_words) (words_term w zs (2 * i + 1) held.z_words)
 
   pub right_loaded : right_at w ws i ≡ d (modes_at n w xs zs ps) i / 2
   unfolding right_at
   right_loaded =
       ap (λ (t : List ℕ). get_or t w 0 % 2) (loaded.at i low)
       ∙ ap (λ (k : ℕ). k % 2) (last_word (xors first second) w (d (modes_at n w xs zs ps) i / 2) both_long)
-      ∙ mod-eq_of_lt (omega (arith, d_lt (modes_at n w xs zs ps) i))
+      ∙ mod-eq_of_lt (omega (arith, d_below (modes_at n w xs zs ps) i))
 
   pub left_below : e (modes_at n w xs zs ps) i < 2 ^ q
   unfolding e
@@ -153,13 +144,6 @@ written_none m q w vs h = go (solved_vacuum m q) (sym (solvable_found m q) ∙ h
     go none k = refl
 
 -- ---- outputs
-
--- v copied to the front of out
-pub front_copied : (w : ℕ) (out v l : List ℕ) → length v ≡ w → w ≤ length out → l ≡ copied (take w out) v → l ++ drop w out ≡ v ++ drop w out
-front_copied w out v l h k e = ap (λ (t : List ℕ). t ++ drop w out) (e ∙ copied_whole (take w out) v (length-take-le w out k ∙ sym h))
-
-pub if_done : {A : Type 0} (p : Paper) (new old : A) → p.number ≡ 0 → on_done p new old ≡ new
-if_done p new old h = rw h
 
 pub if_refused : {A : Type 0} (p : Paper) (new old : A) → (p.number ≡ 0 → ⊥) → on_done p new old ≡ old
 if_refused p new old h = go p.number h
@@ -207,22 +191,16 @@ value_whole m q w h = value_of_words w (vacuum m q) (lt_of_lt_of_le (vacuum_low 
 -- ---- which test refuses, once 1 and 2 are passed
 
 module _ (m : Modes) (q w : ℕ) (vs room : List ℕ) where
-  pub solved_bad : {bad : Bool} → bad ≡ true → SolvedLent bad m q w vs room (Refused Value) vs room
-  solved_bad h = record { answer = rw h; string = refl; same = record { long = refl; behind = refl } }
-
   pub solved_done : {bad : Bool} {after left : List ℕ} → bad ≡ false → solvable m q ≡ true → after ≡ written w (solved_vacuum m q) vs → Same (m.n * (w + 1)) room left
-      → SolvedLent bad m q w vs room Done after left
+      → SolvedLent bad m q w vs room (Ok tt) after left
   solved_done h k e s = record { answer = rw (h, k); string = e ∙ written_found m q w vs k; same = s }
 
   pub solved_none : {bad : Bool} {after left : List ℕ} → bad ≡ false → solvable m q ≡ false → after ≡ written w (solved_vacuum m q) vs → Same (m.n * (w + 1)) room left
-      → SolvedLent bad m q w vs room (Refused NoVacuum) after left
+      → SolvedLent bad m q w vs room (Err NoVacuum) after left
   solved_none h k e s = record { answer = rw (h, k); string = e ∙ written_none m q w vs k; same = s }
 
-  pub new_bad : {bad : Bool} → bad ≡ true → NewLent bad m q w vs room (Refused Value) vs room
-  new_bad h = record { answer = rw h; string = refl; same = record { long = refl; behind = refl } }
-
   module _ (fits : m.n * (w + 1) ≤ 2 * m.n * (w + w)) where
-    pub new_none : {bad : Bool} {left : List ℕ} → bad ≡ false → solvable m q ≡ false → Same (m.n * (w + 1)) room left → NewLent bad m q w vs room (Refused NoVacuum) vs left
+    pub new_none : {bad : Bool} {left : List ℕ} → bad ≡ false → solvable m q ≡ false → Same (m.n * (w + 1)) room left → NewLent bad m q w vs room (Err NoVacuum) vs left
     new_none h k s = record { answer = rw (h, k); string = refl; same = same_longer fits s }
 
     -- the string us, solved in vs₀, is checked
@@ -239,3 +217,18 @@ module _ (m : Modes) (q w : ℕ) (vs room : List ℕ) where
           string = t ∙ ap (λ (l : List ℕ). on_done (answered r) (l ++ drop w vs) vs) f;
           same = same_then (same_longer fits s) u;
         }
+
+    -- refused: the string stays
+    pub new_refused : {bad : Bool} {used left : List ℕ} (vs₀ us : List ℕ) (x : Refusal) → bad ≡ false → solvable m q ≡ true → q ≤ 64 * w → length vs₀ ≡ w
+        → us ≡ written w (solved_vacuum m q) vs₀ → Same (m.n * (w + 1)) room used
+        → paper x ≡ task_checked m (value us) → Same (2 * m.n * (w + w)) used left
+        → NewLent bad m q w vs room (Err x) vs left
+    new_refused vs₀ us x h k low len e s a u =
+        new_task_lem vs₀ us (Err x) h k low len e s a (sym (if_refused (paper x) (us ++ drop w vs) vs (refused_number x))) u
+
+    -- done: the string is copied
+    pub new_done_lem : {bad : Bool} {used left : List ℕ} (vs₀ us : List ℕ) → bad ≡ false → solvable m q ≡ true → q ≤ 64 * w → length vs₀ ≡ w
+        → us ≡ written w (solved_vacuum m q) vs₀ → Same (m.n * (w + 1)) room used
+        → answered {A = Unit {0}} (Ok tt) ≡ task_checked m (value us) → Same (2 * m.n * (w + w)) used left
+        → NewLent bad m q w vs room (Ok tt) (us ++ drop w vs) left
+    new_done_lem vs₀ us h k low len e s a u = new_task_lem vs₀ us (Ok tt) h k low len e s a refl u

@@ -11,7 +11,7 @@ use lib.ListN.{length, get_or, set, drop, drop_of_length-le}
 use lib.Seq.{get_or-drop, drop-drop, drop-set-lt}
 use lib.Bits.{bit_and, bit_or, bit_xor, or_add_and, and_le_r, xor_self}
 use lib.Count.{ones}
-use Rattle.refusal.proofs.Bools.{and_true, not_not}
+use Rattle.refusal.proofs.Bools.{not_not}
 use Rattle.algebra.specs.Rows.{dot}
 use Rattle.algebra.specs.Modes.{Modes, e, d, paired, empty}
 use Rattle.algebra.specs.Coding.{seen}
@@ -21,7 +21,7 @@ use Rattle.dense_block.specs.Words.{value, folded, alike, term_of}
 use Rattle.dense_block.proofs.Values.{Words}
 use Rattle.dense_block.proofs.Terms.{words_term, length_term}
 use Rattle.dense_block.proofs.Alikes.{alike_step}
-use Rattle.dense_block.proofs.Folds.{folded_dot, both_dot, fold_next, fold_past, fold_done}
+use Rattle.dense_block.proofs.Folds.{folded_dot, both_dot, fold_next, fold_past}
 use Rattle.majorana.specs.declared.walk.Walk.{Walk}
 use Rattle.majorana.specs.Sets.{modes_at}
 use Rattle.majorana.specs.Held.{Held}
@@ -48,9 +48,6 @@ apart_next (suc a) x y =
 pub record Walking (x0 x1 z0 s : List ℕ) (i apart first : ℕ) : Type 0 where
   pub alikes : (eqb apart 0 && alike (drop i x0) (drop i x1)) ≡ alike x0 x1
   pub firsts : bit_xor first (folded (drop i z0) (drop i s)) ≡ folded z0 s
-
-pub walk_start : (x0 x1 z0 s : List ℕ) → Walking x0 x1 z0 s 0 0 0
-walk_start x0 x1 z0 s = record { alikes = refl; firsts = refl }
 
 module _ {x0 x1 z0 z1 s : List ℕ} (l : Level x0 x1 z0 z1 s) (i apart first : ℕ) (k : Walking x0 x1 z0 s i apart first) where
   pub walk_next : i < length s → Walking x0 x1 z0 s (i + 1) (bit_or apart (bit_xor (get_or x0 i 0) (get_or x1 i 0))) (bit_xor first (bit_and (get_or z0 i 0) (get_or s i 0)))
@@ -79,13 +76,6 @@ module _ {x0 x1 z0 z1 s : List ℕ} (l : Level x0 x1 z0 z1 s) (i apart first : �
     firsts = fold_past z0 s i first _ (omega (arith, l.z_lo)) k.firsts;
   }
 
-  pub walk_end : length s ≤ i → (both : ℕ) → both ≡ bit_xor (folded z0 s) (folded z1 s) → Walked x0 x1 z0 z1 s (record { apart = apart; first = first; both = both })
-  walk_end h both e = record {
-    apart = sym (ap (λ (b : Bool). eqb apart 0 && b) (left_end i h) ∙ and_true (eqb apart 0)) ∙ k.alikes;
-    first = fold_done z0 s i first _ (omega (arith, l.z_lo)) k.firsts;
-    both = e;
-  }
-
 -- where the state is changed on the way, what is left of it is as it was
 
 pub still : (i : ℕ) (s t : List ℕ) → drop i s ≡ drop i t → get_or s i 0 ≡ get_or t i 0
@@ -112,13 +102,13 @@ module _ {n w : ℕ} {xs zs ps : List ℕ} (held : Held n w xs zs ps) (i : ℕ) 
     z_hi = length_term w zs (2 * i + 1) (z_hi held i low) ∙ sym e;
   }
 
-  pub tells : Words xs → Words zs → Words s → (r : Walk) → Walked (term_of w xs (2 * i)) (term_of w xs (2 * i + 1)) (term_of w zs (2 * i)) (term_of w zs (2 * i + 1)) s r
+  pub tells : Words s → (r : Walk) → Walked (term_of w xs (2 * i)) (term_of w xs (2 * i + 1)) (term_of w zs (2 * i)) (term_of w zs (2 * i + 1)) s r
       → Looked (modes_at n w xs zs ps) i (value s) r
-  tells px pz pt r k =
-      let lo = words_term w zs (2 * i) pz in
-      let hi = words_term w zs (2 * i + 1) pz in
+  tells pt r k =
+      let lo = words_term w zs (2 * i) held.z_words in
+      let hi = words_term w zs (2 * i + 1) held.z_words in
       record {
-        apart = k.apart ∙ same_x held i low px;
+        apart = k.apart ∙ same_x held i low;
         first = ap (λ (u : ℕ). ones u % 2) k.first ∙ folded_dot (term_of w zs (2 * i)) s lo pt;
         both = reads_is held i low (value s) _ (ap (λ (u : ℕ). ones u % 2) k.both ∙ both_dot (term_of w zs (2 * i)) s (term_of w zs (2 * i + 1)) s lo pt hi pt);
       }

@@ -1,13 +1,11 @@
 -- An accepted encoding: what demand 3 asks of a row set and its vacuum, and the words in which it speaks of the calls on them.
-use Rattle.std.specs.Prelude.{ℕ, ◌^◌, ◌<◌, ◌≡◌, List, true, false, get_or}
-use Rattle.refusal.specs.declared.Answer.{Answer}
-use Rattle.refusal.specs.declared.Answer.TheVariants.{Done as Fine}
+use Rattle.std.specs.Prelude.{ℕ, ◌^◌, ◌<◌, ◌≡◌, List, true, false, get_or, Result, Ok}
+use Rattle.refusal.specs.declared.Refusal.{Refusal}
+use Rattle.refusal.specs.Numbers.{Answer}
 use Rattle.algebra.specs.Modes.{Majorana, vacuum_rule}
 use Rattle.algebra.specs.Coding as algebra
 use Rattle.dense_block.specs.Words.{words_for, filled, strays}
 use Rattle.pauli.specs.declared.Phase.{Phase}
-use Rattle.majorana.specs.declared.Encoded.{Encoded}
-use Rattle.majorana.specs.declared.Encoded.TheVariants.{Done}
 use Rattle.majorana.specs.Sets.{Set, width, modes, trimmed, bits, bad_size}
 use Rattle.majorana.specs.Checks.{vacuum_bad}
 use Rattle.majorana.specs.Codes.{encode_short, Encodes}
@@ -32,13 +30,13 @@ Stringed s ts = strays (trimmed s.q ts) s.q ≡ false
 
 -- ---- what encoding makes of a list
 
-pub record EncodedTo (s : Set) (vs ls out : List ℕ) (r : Encoded) (after : List ℕ) : Type 0 where
+pub record EncodedTo (s : Set) (vs ls out : List ℕ) (r : Result Phase Refusal) (after : List ℕ) : Type 0 where
   pub string : ℕ
   pub phase : ℕ
   -- the algebra's answer
   pub run : algebra.encode (modes s) (bits s.q vs) (bits s.n ls) ≡ algebra.done string phase
   -- the call's: done, with the phase, and the string's words in the first w of out
-  pub answer : r ≡ Done (record { power = phase })
+  pub answer : r ≡ Ok (record { power = phase })
   pub words : after ≡ filled (width s) string out
   -- the string has q bits, and is what those words stand for: none is cut off, and none is stray
   pub low : string < 2 ^ s.q
@@ -49,7 +47,7 @@ pub record EncodedTo (s : Set) (vs ls out : List ℕ) (r : Encoded) (after : Lis
 
 pub record DecodedTo (s : Set) (ls out : List ℕ) (r : Answer) (after : List ℕ) : Type 0 where
   -- done, and the first words of out hold the list ls
-  pub answer : r ≡ Fine
+  pub answer : r ≡ Ok tt
   pub words : after ≡ filled (words_for s.n) (bits s.n ls) out
   pub same : bits s.n after ≡ bits s.n ls
 
@@ -79,5 +77,5 @@ pub record EncodingCall (s : Set) (vs ts : List ℕ) : Type 0 where
   pub out_words : (i : ℕ) → get_or out i 0 < 2 ^ 64
   pub listed : Listed s list
   pub long : encode_short s vs list out ≡ false
-  pub promised : Encodes s vs list out (Done phase) after
+  pub promised : Encodes s vs list out (Ok phase) after
   pub leaves : bits s.q after ≡ bits s.q ts

@@ -1,7 +1,6 @@
 -- What the checks of a row set answer.
 use Rattle.std.specs.Prelude.{ℕ, ◌*◌, ◌≡◌, List, [], ◌∷◌, Bool, not, ◌||◌, length}
-use Rattle.refusal.specs.declared.Answer.{Answer}
-use Rattle.refusal.specs.Numbers.{Paper, answered}
+use Rattle.refusal.specs.Numbers.{Paper, Answer, answered}
 use Rattle.refusal.specs.Table.{◌gives◌, ◌names◌, first_of, ◌of◌, short, past_two}
 use Rattle.algebra.specs.Modes.{vacuum_rule, commuting_pair}
 use Rattle.algebra.specs.Choices.{dependent}

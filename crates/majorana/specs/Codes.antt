@@ -1,12 +1,11 @@
 -- What encoding and decoding answer and leave.
-use Rattle.std.specs.Prelude.{ℕ, ◌≡◌, List, [], ◌∷◌, Bool, true, false, ◌||◌, length}
-use Rattle.refusal.specs.declared.Answer.{Answer}
-use Rattle.refusal.specs.Numbers.{Paper, bare, paper, answered}
+use Rattle.std.specs.Prelude.{ℕ, ◌≡◌, List, [], ◌∷◌, Bool, true, false, ◌||◌, length, Result, Ok, Err}
+use Rattle.refusal.specs.declared.Refusal.{Refusal}
+use Rattle.refusal.specs.Numbers.{Paper, Answer, bare, paper, answered}
 use Rattle.refusal.specs.Table.{◌gives◌, first_of, ◌of◌, short, on_done}
 use Rattle.algebra.specs.Coding as algebra
 use Rattle.dense_block.specs.Words.{words_for, filled, strays}
-use Rattle.majorana.specs.declared.Encoded.{Encoded}
-use Rattle.majorana.specs.declared.Encoded.TheVariants.{Done, Refused}
+use Rattle.pauli.specs.declared.Phase.{Phase}
 use Rattle.majorana.specs.Sets.{Set, width, modes, trimmed, bits, bad_size, set_lent, bad_set}
 
 -- ---- encoding: a list of n bits to a string of q bits
@@ -50,12 +49,12 @@ pub record Told : Type 0 where
   pub told : Paper
   pub phase : ℕ
 
-abbrev pub encoded_paper : Encoded → Told
-encoded_paper (Done f) = record { told = bare 0; phase = f.power }
-encoded_paper (Refused r) = record { told = paper r; phase = 0 }
+abbrev pub encoded_paper : Result Phase Refusal → Told
+encoded_paper (Ok f) = record { told = bare 0; phase = f.power }
+encoded_paper (Err r) = record { told = paper r; phase = 0 }
 
 -- the phase is in the answer; the string is written only if it is done
-pub record Encodes (s : Set) (vs ls out : List ℕ) (r : Encoded) (after : List ℕ) : Type 0 where
+pub record Encodes (s : Set) (vs ls out : List ℕ) (r : Result Phase Refusal) (after : List ℕ) : Type 0 where
   pub answer : encoded_paper r ≡ record { told = encode_refused s vs ls out; phase = on_done (encode_refused s vs ls out) (phase_of (encoded s vs ls)) 0 }
   pub string : after ≡ on_done (encode_refused s vs ls out) (filled (width s) (state_of (encoded s vs ls)) out) out
 

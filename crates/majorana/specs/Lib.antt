@@ -5,6 +5,7 @@ pub mod Codes
 pub mod Findings
 pub mod Accepted
 pub mod Held
+pub mod HeldRows
 pub mod Rooms
 pub mod Runs
 pub mod Walks

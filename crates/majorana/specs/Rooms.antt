@@ -1,15 +1,12 @@
 -- For the private functions, and needs no belief: what the row check and solving leave in work room, and the task that is left once no test of the input refuses.
-use Rattle.std.specs.Prelude.{ℕ, ◌+◌, ◌*◌, ◌/◌, ◌<◌, ◌≡◌, Bool, not, cond, List, [], ◌∷◌, ◌++◌, length, drop}
-use Rattle.refusal.specs.declared.Answer.{Answer}
-use Rattle.refusal.specs.Numbers.{Paper, bare, answered}
+use Rattle.std.specs.Prelude.{ℕ, ◌+◌, ◌*◌, ◌/◌, ◌<◌, ◌≡◌, Bool, not, cond, List, [], ◌∷◌, ◌++◌, length, drop, Option, Some, None}
+use Rattle.refusal.specs.Numbers.{Paper, Answer, bare, answered}
 use Rattle.refusal.specs.Search.{all_below, Pair, pair, no_pair}
 use Rattle.refusal.specs.Table.{Rule, ◌gives◌, ◌names◌, first_of, on_done}
 use Rattle.algebra.specs.Modes.{Modes, d, paired, vacuum_rule, commuting_pair}
 use Rattle.algebra.specs.Choices.{dependent}
 use Rattle.algebra.specs.Solving.{solvable}
 use Rattle.dense_block.specs.Words.{xors, term_of, filled}
-use Rattle.majorana.specs.declared.check.Found.{Found}
-use Rattle.majorana.specs.declared.check.Found.TheVariants.{Pair as Two, Nothing}
 use Rattle.majorana.specs.Sets.{modes_at}
 use Rattle.majorana.specs.Vacuums.{vacuum}
 
@@ -20,9 +17,9 @@ pub record Same (size : ℕ) (before after : List ℕ) : Type 0 where
 
 -- ---- the row check
 
-abbrev pub pair_of : Found → Pair
-pair_of (Two i j) = pair i j
-pair_of Nothing = no_pair
+abbrev pub pair_of : Option (ℕ × ℕ) → Pair
+pair_of (Some (i, j)) = pair i j
+pair_of None = no_pair
 
 -- row r of the room is row r's X part and then its Z part
 pub record Loaded (rows w : ℕ) (xs zs before after : List ℕ) : Type 0 where

@@ -1,16 +1,15 @@
 -- For the private functions, and needs no belief: what a run of encoding or decoding hands back and leaves, once no test of the input refuses.
-use Rattle.std.specs.Prelude.{ℕ, List, Bool, true, false}
-use Rattle.refusal.specs.Numbers.{bare}
+use Rattle.std.specs.Prelude.{ℕ, List, Bool, true, false, Option, Some, None}
+use Rattle.refusal.specs.Numbers.{Paper, bare}
 use Rattle.algebra.specs.Coding as algebra
 use Rattle.dense_block.specs.Words.{value, filled}
-use Rattle.majorana.specs.declared.Encoded.{Encoded}
-use Rattle.majorana.specs.declared.Encoded.TheVariants.{Done, Refused}
+use Rattle.pauli.specs.declared.Phase.{Phase}
 use Rattle.majorana.specs.Codes.{Told}
 
--- an answer, with the words of the state so far
-abbrev pub kept : Encoded → List ℕ → algebra.Encoded
-kept (Done f) ws = algebra.done (value ws) f.power
-kept (Refused r) ws = algebra.refused
+-- a phase, with the words of the state so far
+abbrev pub kept : Option Phase → List ℕ → algebra.Encoded
+kept (Some f) ws = algebra.done (value ws) f.power
+kept None ws = algebra.refused
 
 -- the list read, if the vacuum is left
 abbrev pub read_off : Bool → ℕ → algebra.Decoded
@@ -26,7 +25,11 @@ abbrev pub ran_out : algebra.Encoded → ℕ → List ℕ → List ℕ
 ran_out (algebra.done t f) w out = filled w t out
 ran_out algebra.refused w out = out
 
--- and a decoding in the list
+-- and a decoding, in the list
+abbrev pub ran_number : algebra.Decoded → Paper
+ran_number (algebra.found l) = bare 0
+ran_number algebra.foreign = bare 14
+
 abbrev pub ran_list : algebra.Decoded → ℕ → List ℕ → List ℕ
 ran_list (algebra.found l) w out = filled w l out
 ran_list algebra.foreign w out = out

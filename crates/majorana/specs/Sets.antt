@@ -5,6 +5,7 @@ use Rattle.refusal.specs.Table.{Lent, ◌of◌, short}
 use Rattle.algebra.specs.Rows.{Row}
 use Rattle.algebra.specs.Modes.{Modes}
 use Rattle.dense_block.specs.Words.{value, words_for, term_of, strays}
+use Rattle.majorana.specs.declared.RowSet.{RowSet}
 
 pub record Set : Type 0 where
   pub n : ℕ
@@ -16,6 +17,10 @@ pub record Set : Type 0 where
 abbrev pub given : ℕ → ℕ → List ℕ → List ℕ → List ℕ → Set
 given n q xs zs ps = record { n = n; q = q; xs = xs; zs = zs; ps = ps }
 
+-- the same, of the one struct in which the code lends it
+abbrev pub lent : RowSet → Set
+lent r = given r.modes r.qubits r.x.now r.z.now r.phases.now
+
 abbrev pub width : Set → ℕ
 width s = words_for s.q
 
@@ -25,6 +30,10 @@ row_at w xs zs ps k = record { p = get_or ps k 0; x = value (term_of w xs k); z 
 
 abbrev pub modes_at : ℕ → ℕ → List ℕ → List ℕ → List ℕ → Modes
 modes_at n w xs zs ps = record { n = n; row = row_at w xs zs ps }
+
+-- the modes of a lent set, at w words a row
+abbrev pub modes_in : RowSet → ℕ → Modes
+modes_in s w = modes_at s.modes w s.x.now s.z.now s.phases.now
 
 abbrev pub modes : Set → Modes
 modes s = modes_at s.n (width s) s.xs s.zs s.ps
@@ -56,6 +65,9 @@ bad_row_at q w xs zs ps k = ltb 3 (get_or ps k 0) || (strays (term_of w xs k) q 
 
 unfoldable pub bad_rows : ℕ → ℕ → ℕ → List ℕ → List ℕ → List ℕ → Bool
 bad_rows n q w xs zs ps = some_below (2 * n) (bad_row_at q w xs zs ps)
+
+abbrev pub bad_in : RowSet → ℕ → Bool
+bad_in s w = bad_rows s.modes s.qubits w s.x.now s.z.now s.phases.now
 
 abbrev pub bad_set : Set → Bool
 bad_set s = bad_rows s.n s.q (width s) s.xs s.zs s.ps

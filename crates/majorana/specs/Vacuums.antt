@@ -1,7 +1,6 @@
 -- What vacuum solving and `new` answer and leave.
 use Rattle.std.specs.Prelude.{ℕ, ◌+◌, ◌*◌, ◌≡◌, List, [], ◌∷◌, Bool, not, length}
-use Rattle.refusal.specs.declared.Answer.{Answer}
-use Rattle.refusal.specs.Numbers.{Paper, answered}
+use Rattle.refusal.specs.Numbers.{Paper, Answer, answered}
 use Rattle.refusal.specs.Search.{Least, found, none}
 use Rattle.refusal.specs.Table.{◌gives◌, ◌names◌, first_of, ◌of◌, short, on_done, past_two}
 use Rattle.algebra.specs.Modes.{Modes, vacuum_rule, commuting_pair}

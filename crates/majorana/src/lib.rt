@@ -9,8 +9,10 @@
 //   try_encode                   an occupation list to a string and its phase
 //   decode_zbasis_state          a string back to the list
 //
-// Lent to each call: X parts and Z parts of w = ceil(q/64) words a row, 2n·w words each, 2n phases, and strings of w words. Words past the lengths stated are not
-// looked at and stay. Each call tests its input itself, in the order 1, 2, 17 and then its task's own.
+// A set is lent with X parts and Z parts of w = ceil(q/64) words a row, 2n·w words each, and 2n phases; strings have w
+// words. Words past the lengths stated are not looked at and stay. Each call tests its input itself, in the order 1, 2, 17
+// and then its task's own. Outputs are parameters of their own: of a struct with `&mut` in it every contract would speak of
+// borrows.
 
 #![tactic(auto)]
 
@@ -23,59 +25,47 @@ mod walk;
 
 ghost use Rattle.std.specs.Prelude.{◌≡◌};
 ghost use Rattle.refusal.specs.Numbers.{answered};
-ghost use Rattle.majorana.specs.Sets.{given, bad_size, many_or_short, many_or_bad};
+ghost use Rattle.majorana.specs.Sets.{lent, bad_size, many_or_short, many_or_bad};
 ghost use Rattle.majorana.specs.Checks.{vacuum_checked, RowsChecked};
 ghost use Rattle.majorana.specs.Vacuums.{Solves, Makes};
 ghost use Rattle.majorana.specs.Codes.{Encodes, Decodes};
 
 use pauli::Phase;
-use refusal::{Answer, Refusal};
+use refusal::{Lent, Refusal};
+use rows::Rows;
 
-// The phase of an encoded list, or why there is none.
+// A row set as it is lent.
 #[derive(Clone, Copy)]
-pub enum Encoded {
-    Done(Phase),
-    Refused(Refusal),
+pub struct RowSet<'a> {
+    pub modes: usize,
+    pub qubits: usize,
+    pub x: &'a [u64],
+    pub z: &'a [u64],
+    pub phases: &'a [u8],
 }
 
 // Whether modes or qubits are 0 or above 256.
 pub fn bad_size(modes: usize, qubits: usize) -> bool
     ensures { result ≡ bad_size modes qubits }
 {
-    if modes == 0 {
-        return true;
-    }
-    if 256 < modes {
-        return true;
-    }
-    if qubits == 0 {
-        return true;
-    }
-    256 < qubits
+    refusal::outside(modes) || refusal::outside(qubits)
 }
 
-// Whether slices of these lengths are too short for the rows; more than 256 modes, or more than 4 words a row, are too much for slices of any length.
+// Whether slices of these lengths are too short for the rows; more than 256 modes, or more than 4 words a row, are too
+// much for slices of any length. It takes lengths, and no set, since outputs are tested by it too.
 pub fn rows_short(modes: usize, w: usize, x: usize, z: usize, p: usize) -> bool
     ensures { result ≡ many_or_short modes w x z p }
 {
-    if 256 < modes {
-        return true;
-    }
-    if 4 < w {
+    if 256 < modes || 4 < w {
         return true;
     }
     let rows = 2 * modes;
     let size = rows * w;
-    if x < size {
-        return true;
-    }
-    if z < size {
-        return true;
-    }
-    p < rows
+    refusal::any_short(&[Lent(size, x), Lent(size, z), Lent(rows, p)])
 }
 
-// Whether one of the rows has a phase above 3 or a bit past the last column, or there are more than 256 modes. What lies past the end of a slice counts as 0.
+// Whether one of the rows has a phase above 3 or a bit past the last column, or there are more than 256 modes. What lies
+// past the end of a slice counts as 0. A call of other crates, which asks nothing: hence not one of a set and its w.
 pub fn bad_rows(modes: usize, qubits: usize, w: usize, x: &[u64], z: &[u64], phases: &[u8]) -> bool
     ensures { result ≡ many_or_bad modes qubits w x.now z.now phases.now }
 {
@@ -83,236 +73,154 @@ pub fn bad_rows(modes: usize, qubits: usize, w: usize, x: &[u64], z: &[u64], pha
         return true;
     }
     let count = 2 * modes;
-    if rows::bad_phase(phases, count) {
-        return true;
-    }
-    if dense_block::stray_block(x, w, count, qubits) {
-        return true;
-    }
-    dense_block::stray_block(z, w, count, qubits)
+    rows::bad_phase(phases, count)
+        || dense_block::stray_block(x, w, count, qubits)
+        || dense_block::stray_block(z, w, count, qubits)
 }
 
 // Whether the vacuum rule holds at `vacuum`.
-pub fn check_vacuum(
-    modes: usize,
-    qubits: usize,
-    x: &[u64],
-    z: &[u64],
-    phases: &[u8],
-    vacuum: &[u64],
-) -> Answer
-    ensures { answered result ≡ vacuum_checked (given modes qubits x.now z.now phases.now) vacuum.now }
+pub fn check_vacuum(set: RowSet, vacuum: &[u64]) -> Result<(), Refusal>
+    ensures { answered result ≡ vacuum_checked (lent set.entry) vacuum.now }
 {
-    if bad_size(modes, qubits) {
-        return Answer::Refused(Refusal::Size);
+    if bad_size(set.modes, set.qubits) {
+        return Err(Refusal::Size);
     }
-    let w = dense_block::words_for(qubits);
-    if rows::short_one(modes, w, x.len(), z.len(), phases.len(), w, vacuum.len()) {
-        return Answer::Refused(Refusal::Short);
+    let w = dense_block::words_for(set.qubits);
+    if rows::short(set, w, &[Lent(w, vacuum.len())]) {
+        return Err(Refusal::Short);
     }
     let v = &vacuum[..w];
-    if rows::bad_one(modes, qubits, w, x, z, phases, v, qubits) {
-        return Answer::Refused(Refusal::Value);
+    if rows::bad(set, w) || dense_block::stray(v, set.qubits) {
+        return Err(Refusal::Value);
     }
-    if mode::vacuum_rule(modes, w, x, z, phases, v) {
-        return Answer::Done;
+    let rows = Rows::of(set, w);
+    if !rows.vacuum_rule(v) {
+        return Err(Refusal::Vacuum);
     }
-    Answer::Refused(Refusal::Vacuum)
+    Ok(())
 }
 
-// Whether any two rows anticommute (10, with the first pair that does not), no nonempty choice of rows has xor zero (11) and the vacuum rule holds (13). Works in
-// the first 4·modes·w words of room, which are zero after every call that got past 1 and 2.
-pub fn check_rows(
-    modes: usize,
-    qubits: usize,
-    x: &[u64],
-    z: &[u64],
-    phases: &[u8],
-    vacuum: &[u64],
-    room: &mut [u64],
-) -> Answer
-    ensures { RowsChecked (given modes qubits x.now z.now phases.now) vacuum.now room.old result room.new }
+// Whether any two rows anticommute (10, with the first pair that does not), no nonempty choice of rows has xor zero (11)
+// and the vacuum rule holds (13). Works in the first 4·modes·w words of room, which are zero after every call that got
+// past 1 and 2.
+pub fn check_rows(set: RowSet, vacuum: &[u64], room: &mut [u64]) -> Result<(), Refusal>
+    ensures { RowsChecked (lent set.entry) vacuum.now room.old result room.new }
 {
-    if bad_size(modes, qubits) {
-        return Answer::Refused(Refusal::Size);
+    if bad_size(set.modes, set.qubits) {
+        return Err(Refusal::Size);
     }
-    let w = dense_block::words_for(qubits);
-    let need = 4 * modes * w;
-    if rows::short_two(
-        modes,
-        w,
-        x.len(),
-        z.len(),
-        phases.len(),
-        w,
-        vacuum.len(),
-        need,
-        room.len(),
-    ) {
-        return Answer::Refused(Refusal::Short);
+    let w = dense_block::words_for(set.qubits);
+    let need = 4 * set.modes * w;
+    if rows::short(set, w, &[Lent(w, vacuum.len()), Lent(need, room.len())]) {
+        return Err(Refusal::Short);
     }
-    let v = &vacuum[..w];
-    let answer = check::check_lent(modes, qubits, w, x, z, phases, v, room);
+    let answer = check::check_lent(set, w, &vacuum[..w], room);
     dense_block::clear(room, need);
     answer
 }
 
-// The vacuum: the string that meets the vacuum rule and is zero in each column equal to a xor of some columns before it, or 12 if no string meets the rule. Looks at
-// pairs only, and does not test anticommutation. Done: the string is in the first w words of vacuum. Refused: vacuum is as it was. Works in the first modes·(w + 1)
-// words of room, which are zero after every call that got past 1 and 2.
+// The vacuum: the string that meets the vacuum rule and is zero in each column equal to a xor of some columns before it,
+// or 12 if no string meets the rule. Looks at pairs only, and does not test anticommutation. Done: the string is in the
+// first w words of vacuum. Refused: vacuum is as it was. Works in the first modes·(w + 1) words of room, which are zero
+// after every call that got past 1 and 2.
 pub fn determine_vacuum_state(
-    modes: usize,
-    qubits: usize,
-    x: &[u64],
-    z: &[u64],
-    phases: &[u8],
+    set: RowSet,
     vacuum: &mut [u64],
     room: &mut [u64],
-) -> Answer
-    ensures { Solves (given modes qubits x.now z.now phases.now) vacuum.old room.old result vacuum.new room.new }
+) -> Result<(), Refusal>
+    ensures { Solves (lent set.entry) vacuum.old room.old result vacuum.new room.new }
 {
-    if bad_size(modes, qubits) {
-        return Answer::Refused(Refusal::Size);
+    if bad_size(set.modes, set.qubits) {
+        return Err(Refusal::Size);
     }
-    let w = dense_block::words_for(qubits);
-    let need = modes * (w + 1);
-    if rows::short_two(
-        modes,
-        w,
-        x.len(),
-        z.len(),
-        phases.len(),
-        w,
-        vacuum.len(),
-        need,
-        room.len(),
-    ) {
-        return Answer::Refused(Refusal::Short);
+    let w = dense_block::words_for(set.qubits);
+    let need = set.modes * (w + 1);
+    if rows::short(set, w, &[Lent(w, vacuum.len()), Lent(need, room.len())]) {
+        return Err(Refusal::Short);
     }
-    let answer = vacuum::solve_lent(modes, qubits, w, x, z, phases, vacuum, room);
+    let answer = vacuum::solve_lent(set, w, vacuum, room);
     dense_block::clear(room, need);
     answer
 }
 
-// Solves the vacuum, checks the rows, then checks the vacuum: 12, 10, 11 and 13, in this order. Done: the vacuum is in the first w words of vacuum. Refused: vacuum is
-// as it was. Works in the first 4·modes·w words of room, which are zero after every call that got past 1 and 2.
-pub fn new(
-    modes: usize,
-    qubits: usize,
-    x: &[u64],
-    z: &[u64],
-    phases: &[u8],
-    vacuum: &mut [u64],
-    room: &mut [u64],
-) -> Answer
-    ensures { Makes (given modes qubits x.now z.now phases.now) vacuum.old room.old result vacuum.new room.new }
+// Solves the vacuum, checks the rows, then checks the vacuum: 12, 10, 11 and 13, in this order. Done: the vacuum is in
+// the first w words of vacuum. Refused: vacuum is as it was. Works in the first 4·modes·w words of room, which are zero
+// after every call that got past 1 and 2.
+pub fn new(set: RowSet, vacuum: &mut [u64], room: &mut [u64]) -> Result<(), Refusal>
+    ensures { Makes (lent set.entry) vacuum.old room.old result vacuum.new room.new }
 {
-    if bad_size(modes, qubits) {
-        return Answer::Refused(Refusal::Size);
+    if bad_size(set.modes, set.qubits) {
+        return Err(Refusal::Size);
     }
-    let w = dense_block::words_for(qubits);
-    let need = 4 * modes * w;
-    if rows::short_two(
-        modes,
-        w,
-        x.len(),
-        z.len(),
-        phases.len(),
-        w,
-        vacuum.len(),
-        need,
-        room.len(),
-    ) {
-        return Answer::Refused(Refusal::Short);
+    let w = dense_block::words_for(set.qubits);
+    let need = 4 * set.modes * w;
+    if rows::short(set, w, &[Lent(w, vacuum.len()), Lent(need, room.len())]) {
+        return Err(Refusal::Short);
     }
-    let answer = vacuum::new_lent(modes, qubits, w, x, z, phases, vacuum, room);
+    let answer = vacuum::new_lent(set, w, vacuum, room);
     dense_block::clear(room, need);
     answer
 }
 
-// Encodes an occupation list of `modes` bits, from the highest occupied mode down, starting at `vacuum` with phase 0. Done: the phase is in the answer and the string
-// in the first w words of out. Refused (15: a condition is not met): out is as it was.
+// Encodes an occupation list of `modes` bits, from the highest occupied mode down, starting at `vacuum` with phase 0.
+// Done: the phase is in the answer and the string in the first w words of out. Refused (15: a condition is not met): out
+// is as it was.
 pub fn try_encode(
-    modes: usize,
-    qubits: usize,
-    x: &[u64],
-    z: &[u64],
-    phases: &[u8],
+    set: RowSet,
     vacuum: &[u64],
     list: &[u64],
     out: &mut [u64],
-) -> Encoded
-    ensures { Encodes (given modes qubits x.now z.now phases.now) vacuum.now list.now out.old result out.new }
+) -> Result<Phase, Refusal>
+    ensures { Encodes (lent set.entry) vacuum.now list.now out.old result out.new }
 {
-    if bad_size(modes, qubits) {
-        return Encoded::Refused(Refusal::Size);
+    if bad_size(set.modes, set.qubits) {
+        return Err(Refusal::Size);
     }
-    let w = dense_block::words_for(qubits);
-    let lw = dense_block::words_for(modes);
-    if rows::short_three(
-        modes,
-        w,
-        x.len(),
-        z.len(),
-        phases.len(),
-        w,
-        vacuum.len(),
-        lw,
-        list.len(),
-        w,
-        out.len(),
-    ) {
-        return Encoded::Refused(Refusal::Short);
+    let w = dense_block::words_for(set.qubits);
+    let lw = dense_block::words_for(set.modes);
+    let lent = [
+        Lent(w, vacuum.len()),
+        Lent(lw, list.len()),
+        Lent(w, out.len()),
+    ];
+    if rows::short(set, w, &lent) {
+        return Err(Refusal::Short);
     }
     let v = &vacuum[..w];
     let l = &list[..lw];
-    if rows::bad_two(modes, qubits, w, x, z, phases, v, qubits, l, modes) {
-        return Encoded::Refused(Refusal::Value);
+    if rows::bad(set, w) || dense_block::stray(v, set.qubits) || dense_block::stray(l, set.modes) {
+        return Err(Refusal::Value);
     }
-    coding::encode_into(modes, w, x, z, phases, v, l, out)
+    coding::encode(&Rows::of(set, w), v, l, out)
 }
 
-// Decodes a string of `qubits` bits. Done: the list is in the first ceil(modes/64) words of out. Refused (14: the string does not lead back to `vacuum`, or a mode's X
-// parts differ, or its d is odd): out is as it was.
+// Decodes a string of `qubits` bits. Done: the list is in the first ceil(modes/64) words of out. Refused (14: the string
+// does not lead back to `vacuum`, or a mode's X parts differ, or its d is odd): out is as it was.
 pub fn decode_zbasis_state(
-    modes: usize,
-    qubits: usize,
-    x: &[u64],
-    z: &[u64],
-    phases: &[u8],
+    set: RowSet,
     vacuum: &[u64],
     string: &[u64],
     out: &mut [u64],
-) -> Answer
-    ensures { Decodes (given modes qubits x.now z.now phases.now) vacuum.now string.now out.old result out.new }
+) -> Result<(), Refusal>
+    ensures { Decodes (lent set.entry) vacuum.now string.now out.old result out.new }
 {
-    if bad_size(modes, qubits) {
-        return Answer::Refused(Refusal::Size);
+    if bad_size(set.modes, set.qubits) {
+        return Err(Refusal::Size);
     }
-    let w = dense_block::words_for(qubits);
-    let lw = dense_block::words_for(modes);
-    if rows::short_three(
-        modes,
-        w,
-        x.len(),
-        z.len(),
-        phases.len(),
-        w,
-        vacuum.len(),
-        w,
-        string.len(),
-        lw,
-        out.len(),
-    ) {
-        return Answer::Refused(Refusal::Short);
+    let w = dense_block::words_for(set.qubits);
+    let lw = dense_block::words_for(set.modes);
+    let lent = [
+        Lent(w, vacuum.len()),
+        Lent(w, string.len()),
+        Lent(lw, out.len()),
+    ];
+    if rows::short(set, w, &lent) {
+        return Err(Refusal::Short);
     }
     let v = &vacuum[..w];
     let s = &string[..w];
-    if rows::bad_two(modes, qubits, w, x, z, phases, v, qubits, s, qubits) {
-        return Answer::Refused(Refusal::Value);
+    if rows::bad(set, w) || dense_block::stray(v, set.qubits) || dense_block::stray(s, set.qubits) {
+        return Err(Refusal::Value);
     }
-    if coding::decode_into(modes, w, x, z, phases, v, s, out) {
-        return Answer::Done;
-    }
-    Answer::Refused(Refusal::Undecodable)
+    coding::decode(&Rows::of(set, w), v, s, out)
 }

@@ -1,150 +1,91 @@
-// The tests that every call shares, and one row of a set.
+// The tests that every call shares, and the rows of a set that passed them.
 
-ghost use Rattle.std.specs.Prelude.{◌≡◌, [], ◌∷◌, ◌||◌, ◌+◌, ◌*◌, ◌≤◌, ◌<◌, min, max, ltb, length, get_or};
-ghost use Rattle.refusal.specs.Table.{◌of◌, short};
+ghost use Rattle.std.specs.Prelude.{◌≡◌, false, ℕ, ◌^◌, ◌+◌, ◌*◌, ◌≤◌, ◌<◌, ltb, length, get_or};
+ghost use Rattle.refusal.specs.Slices.{lengths};
+ghost use Rattle.refusal.specs.Table.{short};
 ghost use Rattle.refusal.specs.Search.{some_below};
-ghost use Rattle.dense_block.specs.Words.{term_of, strays};
-ghost use Rattle.majorana.specs.Sets.{set_lent, bad_rows};
-ghost use Rattle.majorana.specs.Held.{Fits};
+ghost use Rattle.majorana.specs.Sets.{set_lent, bad_in};
+ghost use Rattle.majorana.specs.Held.{FitsIn, HeldIn};
 
-// Whether slices are too short for the rows and one thing more, of length `h1`, of which `n1` are needed; and for two and three more.
-pub fn short_one(modes: usize, w: usize, x: usize, z: usize, p: usize, n1: usize, h1: usize) -> bool
-    requires { (modes ≤ 256) × (w ≤ 4) }
-    ensures { result ≡ short (set_lent modes w x z p ((n1 of h1) ∷ [])) }
+use crate::RowSet;
+use pauli::{Phase, Row};
+use refusal::Lent;
+
+// Whether slices are too short for the rows of a set, or for what else a call is lent.
+pub fn short(set: RowSet, w: usize, more: &[Lent]) -> bool
+    requires { (set.modes ≤ 256) × (w ≤ 4) }
+    ensures { result ≡ short (set_lent set.entry.modes w (length set.entry.x.now) (length set.entry.z.now)
+        (length set.entry.phases.now) (lengths more.now)) }
 {
-    if crate::rows_short(modes, w, x, z, p) {
-        return true;
-    }
-    h1 < n1
+    crate::rows_short(set.modes, w, set.x.len(), set.z.len(), set.phases.len())
+        || refusal::any_short(more)
 }
 
-pub fn short_two(
-    modes: usize,
-    w: usize,
-    x: usize,
-    z: usize,
-    p: usize,
-    n1: usize,
-    h1: usize,
-    n2: usize,
-    h2: usize,
-) -> bool
-    requires { (modes ≤ 256) × (w ≤ 4) }
-    ensures { result ≡ short (set_lent modes w x z p ((n1 of h1) ∷ (n2 of h2) ∷ [])) }
-{
-    if crate::rows_short(modes, w, x, z, p) {
-        return true;
-    }
-    if h1 < n1 {
-        return true;
-    }
-    h2 < n2
-}
-
-pub fn short_three(
-    modes: usize,
-    w: usize,
-    x: usize,
-    z: usize,
-    p: usize,
-    n1: usize,
-    h1: usize,
-    n2: usize,
-    h2: usize,
-    n3: usize,
-    h3: usize,
-) -> bool
-    requires { (modes ≤ 256) × (w ≤ 4) }
-    ensures { result ≡ short (set_lent modes w x z p ((n1 of h1) ∷ (n2 of h2) ∷ (n3 of h3) ∷ [])) }
-{
-    if crate::rows_short(modes, w, x, z, p) {
-        return true;
-    }
-    if h1 < n1 {
-        return true;
-    }
-    if h2 < n2 {
-        return true;
-    }
-    h3 < n3
-}
-
-// Row k of rows of w words.
-pub fn row(w: usize, k: usize, x: &[u64]) -> &[u64]
-    requires { k * w + w ≤ length x.now }
-    ensures { result.now ≡ term_of w x.now k }
-{
-    let a = k * w;
-    let e = a + w;
-    &x[a..e]
-}
-
-fn least(a: usize, b: usize) -> usize
-    ensures { result ≡ min a b }
-{
-    if a < b { a } else { b }
-}
-
-fn larger(a: u8, b: u8) -> u8
-    ensures { result ≡ max a b }
-{
-    if a < b { b } else { a }
-}
-
-// Whether one of the first n phases is above 3. It does not stop at the first that is, so that a processor can look at many at once.
+// Whether one of the first n phases is above 3. It does not stop at the first that is, so that a processor can look at
+// many at once.
 pub fn bad_phase(phases: &[u8], n: usize) -> bool
     ensures { result ≡ some_below n (λ k. ltb 3 (get_or phases.now k 0)) }
 {
-    let m = least(n, phases.len());
+    let m = n.min(phases.len());
     let mut top = 0u8;
-    let mut i = 0;
-    while i < m {
-        top = larger(top, phases[i]);
-        i += 1;
+    for p in &phases[..m] {
+        top = top.max(*p);
     }
     3 < top
 }
 
-// Whether one of the rows is bad, or a string has a bit at or above its column q1; and with two strings.
-pub fn bad_one(
-    modes: usize,
-    qubits: usize,
-    w: usize,
-    x: &[u64],
-    z: &[u64],
-    phases: &[u8],
-    s: &[u64],
-    q1: usize,
-) -> bool
-    requires { Fits modes w x.now z.now phases.now }
-    ensures { result ≡ (bad_rows modes qubits w x.now z.now phases.now || strays s.now q1) }
+// Whether one of the rows is bad, in slices that hold them.
+pub fn bad(set: RowSet, w: usize) -> bool
+    requires { FitsIn set w }
+    ensures { result ≡ bad_in set.entry w }
 {
-    if crate::bad_rows(modes, qubits, w, x, z, phases) {
-        return true;
-    }
-    dense_block::stray(s, q1)
+    crate::bad_rows(set.modes, set.qubits, w, set.x, set.z, set.phases)
 }
 
-pub fn bad_two(
-    modes: usize,
-    qubits: usize,
-    w: usize,
-    x: &[u64],
-    z: &[u64],
-    phases: &[u8],
-    s: &[u64],
-    q1: usize,
-    t: &[u64],
-    q2: usize,
-) -> bool
-    requires { Fits modes w x.now z.now phases.now }
-    ensures { result ≡ (bad_rows modes qubits w x.now z.now phases.now || (strays s.now q1 || strays t.now q2)) }
-{
-    if crate::bad_rows(modes, qubits, w, x, z, phases) {
-        return true;
+// For the proof alone: that words are below 2^64 is known of a slice that is a parameter, and not of one in a struct.
+fn words(x: &[u64])
+    ensures { (k : ℕ) → get_or x.now k 0 < 2 ^ 64 }
+{}
+
+// The rows of a set, of w words a part, that passed these tests.
+#[derive(Clone, Copy)]
+pub struct Rows<'a> {
+    pub set: RowSet<'a>,
+    pub w: usize,
+    ghost held: { HeldIn set w },
+    ghost good: { bad_in set w ≡ false },
+}
+
+impl<'a> Rows<'a> {
+    ghost use Rattle.dense_block.specs.Words.{term_of};
+    ghost use Rattle.majorana.specs.HeldRows.{modes_of};
+
+    // The rows of a set that passed 2 and 17.
+    pub fn of(set: RowSet<'a>, w: usize) -> Rows<'a>
+        requires fits { FitsIn set w }
+        requires good { bad_in set w ≡ false }
+        ensures set { result.set ≡ set.entry }
+        ensures w { result.w ≡ w }
+    {
+        words(set.x);
+        words(set.z);
+        Rows { set, w }
     }
-    if dense_block::stray(s, q1) {
-        return true;
+
+    // Row k.
+    pub fn row(&self, k: usize) -> Row<'a>
+        requires { k < 2 * self.now.set.modes }
+        ensures phase { result.phase.power ≡ get_or self.now.set.phases.now k 0 }
+        ensures x { result.x.now ≡ term_of self.now.w self.now.set.x.now k }
+        ensures z { result.z.now ≡ term_of self.now.w self.now.set.z.now k }
+    {
+        let RowSet { x, z, phases, .. } = self.set;
+        let a = k * self.w;
+        let e = a + self.w;
+        Row {
+            phase: Phase { power: phases[k] },
+            x: &x[a..e],
+            z: &z[a..e],
+        }
     }
-    dense_block::stray(t, q2)
 }

@@ -1,10 +1,13 @@
-// One walk along the four rows of a mode beside a state, in one loop, and what is told from it.
+// One walk along the two rows of a mode beside a state, in one loop, and what is told from it.
 
 ghost use Rattle.std.specs.Prelude.{◌≡◌};
 ghost use Rattle.dense_block.specs.Words.{xors};
 ghost use Rattle.majorana.specs.Walks.{Level, Walked, paired_by, seen_by, empty_by};
 
-// What a walk gathers: `apart` is 0 exactly if the X parts agree; `first` is the fold of the Z part z0 with the state, and `both` that of z0 and z1.
+use pauli::Row;
+
+// What a walk gathers: `apart` is 0 exactly if the X parts agree; `first` is the fold of the first row's Z part with the
+// state, and `both` that of both Z parts.
 #[derive(Clone, Copy)]
 pub struct Walk {
     pub apart: u64,
@@ -18,10 +21,7 @@ impl Walk {
     pub fn is_paired(self, d: u8) -> bool
         ensures { result ≡ paired_by self d }
     {
-        if self.apart != 0 {
-            return false;
-        }
-        d % 2 == 0
+        self.apart == 0 && d % 2 == 0
     }
 
     // Whether the mode is occupied in the state: e·s differs from d/2.
@@ -35,56 +35,47 @@ impl Walk {
     pub fn is_empty(self, d: u8) -> bool
         ensures { result ≡ empty_by self d }
     {
-        if !self.is_paired(d) {
-            return false;
-        }
-        !self.is_seen(d)
+        self.is_paired(d) && !self.is_seen(d)
     }
 }
 
-// Along the X parts x0, x1 and the Z parts z0, z1 of a mode's rows, beside the state s. No row has more than four words: a loop of a fixed length, with a test for
-// words that are not there, takes a third fewer instructions than one of the row's length.
-pub fn beside(x0: &[u64], x1: &[u64], z0: &[u64], z1: &[u64], s: &[u64]) -> Walk
-    requires { Level x0.now x1.now z0.now z1.now s.now }
-    ensures { Walked x0.now x1.now z0.now z1.now s.now result }
+// Along the rows lo and hi of a mode, beside the state s. No row has more than four words: a loop of a fixed length, with
+// a test for words that are not there, takes a third fewer instructions than one of the row's length.
+pub fn beside(lo: Row, hi: Row, s: &[u64]) -> Walk
+    requires { Level lo.x.now hi.x.now lo.z.now hi.z.now s.now }
+    ensures { Walked lo.entry.x.now hi.entry.x.now lo.entry.z.now hi.entry.z.now s.now result }
 {
-    let n = s.len();
     let mut apart = 0u64;
     let mut first = 0u64;
     let mut both = 0u64;
-    let mut next = 0;
-    while next < 4 {
-        let at = next;
-        next += 1;
-        if at < n {
+    for at in 0..4 {
+        if at < s.len() {
             let t = s[at];
-            apart = apart | (x0[at] ^ x1[at]);
-            first = first ^ (z0[at] & t);
-            both = both ^ ((z0[at] & t) ^ (z1[at] & t));
+            apart |= lo.x[at] ^ hi.x[at];
+            first ^= lo.z[at] & t;
+            both ^= (lo.z[at] & t) ^ (hi.z[at] & t);
         }
     }
     Walk { apart, first, both }
 }
 
-// The same, and s becomes s xor x0. The two folds are made apart, since the first is wanted by itself.
-pub fn across(x0: &[u64], x1: &[u64], z0: &[u64], z1: &[u64], s: &mut [u64]) -> Walk
-    requires { Level x0.now x1.now z0.now z1.now s.old }
-    ensures { Walked x0.now x1.now z0.now z1.now s.old result × (s.new ≡ xors s.old x0.now) }
+// The same, and s becomes s xor the first row's X part. The two folds are made apart, since the first is wanted by itself.
+pub fn across(lo: Row, hi: Row, s: &mut [u64]) -> Walk
+    requires { Level lo.x.now hi.x.now lo.z.now hi.z.now s.old }
+    ensures { Walked lo.entry.x.now hi.entry.x.now lo.entry.z.now hi.entry.z.now s.old result
+        × (s.new ≡ xors s.old lo.entry.x.now) }
 {
-    let n = x0.len();
+    let n = lo.x.len();
     let mut apart = 0u64;
     let mut first = 0u64;
     let mut second = 0u64;
-    let mut next = 0;
-    while next < 4 {
-        let at = next;
-        next += 1;
+    for at in 0..4 {
         if at < n {
             let t = s[at];
-            apart = apart | (x0[at] ^ x1[at]);
-            first = first ^ (z0[at] & t);
-            second = second ^ (z1[at] & t);
-            s[at] = t ^ x0[at];
+            apart |= lo.x[at] ^ hi.x[at];
+            first ^= lo.z[at] & t;
+            second ^= hi.z[at] & t;
+            s[at] = t ^ lo.x[at];
         }
     }
     Walk {

@@ -1,402 +1,216 @@
-// Runs the vacuum check, encoding and decoding at the limits of what they take, and writes a line for each call: the number handed back, an encoding's phase, and
-// all five words of the buffer, which held 7 before. The buffer is lent whole or, as its case says, one word short.
+// Runs the vacuum check, encoding and decoding at the limits of what they take, and writes a line for each call: the
+// number handed back, an encoding's phase, and all five words of the buffer, which held 7 before. The buffer is lent
+// whole or, as its case says, one word short.
 
 #![tactic(auto)]
 
-ghost use Rattle.std.specs.Prelude.{◌≤◌, length};
-
-use majorana::Encoded;
+use majorana::RowSet;
 use std::io;
 
-fn wide(x: u8) -> u64 {
-    x as u64
+// What the calls are lent.
+#[derive(Clone, Copy)]
+struct Lent<'a> {
+    // What a case's name begins with.
+    size: &'a str,
+    set: RowSet<'a>,
+    vacuum: &'a [u64],
+    // What is encoded, and what is decoded.
+    list: &'a [u64],
+    string: &'a [u64],
+    // Words of the buffer, at most 5.
+    room: usize,
 }
 
-// The number of an encoding's answer.
-fn number(r: Encoded) -> u8 {
-    match r {
-        Encoded::Done(_) => 0,
-        Encoded::Refused(why) => why.number(),
+// Jordan-Wigner on two modes, its list 11 and that list's string.
+const TWO_MODES: Lent = Lent {
+    size: "",
+    set: RowSet {
+        modes: 2,
+        qubits: 2,
+        x: &[1, 1, 2, 2],
+        z: &[0, 1, 1, 3],
+        phases: &[0, 1, 0, 1],
+    },
+    vacuum: &[0],
+    list: &[3],
+    string: &[3],
+    room: 5,
+};
+
+// 256 modes on 256 qubits. All rows are the identity, so X parts agree and d is 3, odd.
+const LARGEST: Lent = Lent {
+    size: "256 modes, ",
+    set: RowSet {
+        modes: 256,
+        qubits: 256,
+        x: &[0; 2048],
+        z: &[0; 2048],
+        phases: &[0; 512],
+    },
+    vacuum: &[0; 4],
+    list: &[0; 4],
+    string: &[0; 4],
+    room: 5,
+};
+
+impl<'a> Lent<'a> {
+    fn sized(self, modes: usize, qubits: usize) -> Lent<'a> {
+        let set = RowSet {
+            modes,
+            qubits,
+            ..self.set
+        };
+        Lent { set, ..self }
+    }
+
+    fn with_x(self, x: &'a [u64]) -> Lent<'a> {
+        let set = RowSet { x, ..self.set };
+        Lent { set, ..self }
+    }
+
+    fn with_z(self, z: &'a [u64]) -> Lent<'a> {
+        let set = RowSet { z, ..self.set };
+        Lent { set, ..self }
+    }
+
+    fn with_phases(self, phases: &'a [u8]) -> Lent<'a> {
+        let set = RowSet { phases, ..self.set };
+        Lent { set, ..self }
+    }
+
+    fn with_vacuum(self, vacuum: &'a [u64]) -> Lent<'a> {
+        Lent { vacuum, ..self }
+    }
+
+    fn with_list(self, list: &'a [u64]) -> Lent<'a> {
+        Lent { list, ..self }
+    }
+
+    fn with_string(self, string: &'a [u64]) -> Lent<'a> {
+        Lent { string, ..self }
     }
 }
 
-// Its phase; 0 where it is refused.
-fn phase(r: Encoded) -> u8 {
-    match r {
-        Encoded::Done(f) => f.power,
-        Encoded::Refused(_) => 0,
-    }
-}
-
-// Writes a blank and a number.
-fn next(rt: &impl Print, k: u64) -> io::Result<()> {
-    print!(rt; " {k}")
+// All but the last element.
+fn but_last<T>(s: &[T]) -> &[T] {
+    &s[..s.len().saturating_sub(1)]
 }
 
 // Writes the words of s, a blank before each.
 fn words(rt: &impl Print, s: &[u64]) -> io::Result<()> {
-    let mut i = 0;
-    while i < s.len() {
-        next(rt, s[i])?;
-        i += 1;
+    for word in s {
+        print!(rt; " {word}")?;
+    }
+    println!(rt)
+}
+
+fn check(rt: &impl Print, case: &str, lent: Lent) -> io::Result<()> {
+    let answer = majorana::check_vacuum(lent.set, lent.vacuum);
+    println!(rt; "check, {}{case}: {}", lent.size, refusal::number(&answer))
+}
+
+fn encode(rt: &impl Print, case: &str, lent: Lent) -> io::Result<()> {
+    let mut out = [7; 5];
+    let room = &mut out[..lent.room.min(5)];
+    let answer = majorana::try_encode(lent.set, lent.vacuum, lent.list, room);
+    let phase = answer.map_or(0, |phase| phase.power);
+    print!(rt;
+        "encode, {}{case}: {}, phase {phase}, string",
+        lent.size,
+        refusal::number(&answer)
+    )?;
+    words(rt, &out)
+}
+
+fn decode(rt: &impl Print, case: &str, lent: Lent) -> io::Result<()> {
+    let mut out = [7; 5];
+    let room = &mut out[..lent.room.min(5)];
+    let answer = majorana::decode_zbasis_state(lent.set, lent.vacuum, lent.string, room);
+    print!(rt;
+        "decode, {}{case}: {}, list",
+        lent.size,
+        refusal::number(&answer)
+    )?;
+    words(rt, &out)
+}
+
+fn three(rt: &impl Print, case: &str, lent: Lent) -> io::Result<()> {
+    check(rt, case, lent)?;
+    encode(rt, case, lent)?;
+    decode(rt, case, lent)
+}
+
+fn sizes(rt: &impl Print) -> io::Result<()> {
+    for (case, modes, qubits) in [
+        ("2 modes", 2, 2),
+        ("0 modes", 0, 2),
+        ("257 modes", 257, 2),
+        ("the largest number of modes", usize::MAX, 2),
+        ("0 qubits", 2, 0),
+        ("257 qubits", 2, 257),
+        ("the largest number of qubits", 2, usize::MAX),
+    ] {
+        three(rt, case, TWO_MODES.sized(modes, qubits))?;
     }
     Ok(())
 }
 
-// Starts a line with the call, the case and the number handed back.
-fn head(rt: &impl Print, call: &[u8], case: &[u8], k: u8) -> io::Result<()> {
-    rt.write_all(call)?;
-    rt.write_all(b", ")?;
-    rt.write_all(case)?;
-    rt.write_all(b": ")?;
-    print!(rt; "{}", wide(k))
-}
-
-fn encode(
-    rt: &impl Print,
-    case: &[u8],
-    modes: usize,
-    qubits: usize,
-    x: &[u64],
-    z: &[u64],
-    phases: &[u8],
-    vacuum: &[u64],
-    list: &[u64],
-    room: usize,
-) -> io::Result<()>
-    requires { room ≤ 5 }
-{
-    let mut out = [7u64; 5];
-    let r = majorana::try_encode(modes, qubits, x, z, phases, vacuum, list, &mut out[..room]);
-    head(rt, b"encode", case, number(r))?;
-    rt.write_all(b", phase ")?;
-    print!(rt; "{}", wide(phase(r)))?;
-    rt.write_all(b", string")?;
-    words(rt, &out)?;
-    rt.write_all(b"\n")
-}
-
-fn decode(
-    rt: &impl Print,
-    case: &[u8],
-    modes: usize,
-    qubits: usize,
-    x: &[u64],
-    z: &[u64],
-    phases: &[u8],
-    vacuum: &[u64],
-    string: &[u64],
-    room: usize,
-) -> io::Result<()>
-    requires { room ≤ 5 }
-{
-    let mut out = [7u64; 5];
-    let r = majorana::decode_zbasis_state(
-        modes,
-        qubits,
-        x,
-        z,
-        phases,
-        vacuum,
-        string,
-        &mut out[..room],
-    );
-    head(rt, b"decode", case, r.number())?;
-    rt.write_all(b", list")?;
-    words(rt, &out)?;
-    rt.write_all(b"\n")
-}
-
-fn check(
-    rt: &impl Print,
-    case: &[u8],
-    modes: usize,
-    qubits: usize,
-    x: &[u64],
-    z: &[u64],
-    phases: &[u8],
-    vacuum: &[u64],
-) -> io::Result<()> {
-    let r = majorana::check_vacuum(modes, qubits, x, z, phases, vacuum);
-    head(rt, b"check", case, r.number())?;
-    rt.write_all(b"\n")
-}
-
-// All three calls on one row set.
-fn three(
-    rt: &impl Print,
-    case: &[u8],
-    modes: usize,
-    qubits: usize,
-    x: &[u64],
-    z: &[u64],
-    phases: &[u8],
-    vacuum: &[u64],
-    list: &[u64],
-    string: &[u64],
-    room: usize,
-) -> io::Result<()>
-    requires { room ≤ 5 }
-{
-    check(rt, case, modes, qubits, x, z, phases, vacuum)?;
-    encode(rt, case, modes, qubits, x, z, phases, vacuum, list, room)?;
-    decode(rt, case, modes, qubits, x, z, phases, vacuum, string, room)
-}
-
-// The same, with so many words or phases of each slice.
-fn parts(
-    rt: &impl Print,
-    case: &[u8],
-    modes: usize,
-    qubits: usize,
-    x: &[u64],
-    nx: usize,
-    z: &[u64],
-    nz: usize,
-    phases: &[u8],
-    np: usize,
-    vacuum: &[u64],
-    nv: usize,
-    list: &[u64],
-    nl: usize,
-    string: &[u64],
-    ns: usize,
-    room: usize,
-) -> io::Result<()>
-    requires { (nx ≤ length x.now) × (nz ≤ length z.now) × (np ≤ length phases.now) × (nv ≤ length vacuum.now) × (nl ≤ length list.now) × (ns ≤ length string.now) × (room ≤ 5) }
-{
+// Each slice a word or a phase short, where no more is lent than needed. The buffer needs as much as a list or a string.
+fn one_short(rt: &impl Print, lent: Lent) -> io::Result<()> {
+    let set = lent.set;
+    three(rt, "x one short", lent.with_x(but_last(set.x)))?;
+    three(rt, "z one short", lent.with_z(but_last(set.z)))?;
     three(
         rt,
-        case,
-        modes,
-        qubits,
-        &x[..nx],
-        &z[..nz],
-        &phases[..np],
-        &vacuum[..nv],
-        &list[..nl],
-        &string[..ns],
-        room,
-    )
-}
-
-// Jordan-Wigner on two modes, its list 11 and that list's string, with these numbers of modes and qubits.
-fn sized(rt: &impl Print, case: &[u8], modes: usize, qubits: usize) -> io::Result<()> {
-    let x = [1u64, 1, 2, 2];
-    let z = [0u64, 1, 1, 3];
-    let phases = [0u8, 1, 0, 1];
-    let vacuum = [0u64; 1];
-    let list = [3u64; 1];
-    let string = [3u64; 1];
+        "phases one short",
+        lent.with_phases(but_last(set.phases)),
+    )?;
     three(
-        rt, case, modes, qubits, &x, &z, &phases, &vacuum, &list, &string, 5,
-    )
-}
-
-// The same, with so many words or phases of each slice.
-fn cut(
-    rt: &impl Print,
-    case: &[u8],
-    nx: usize,
-    nz: usize,
-    np: usize,
-    nv: usize,
-    nl: usize,
-    ns: usize,
-    room: usize,
-) -> io::Result<()>
-    requires { (nx ≤ 4) × (nz ≤ 4) × (np ≤ 4) × (nv ≤ 1) × (nl ≤ 1) × (ns ≤ 1) × (room ≤ 5) }
-{
-    let x = [1u64, 1, 2, 2];
-    let z = [0u64, 1, 1, 3];
-    let phases = [0u8, 1, 0, 1];
-    let vacuum = [0u64; 1];
-    let list = [3u64; 1];
-    let string = [3u64; 1];
-    parts(
-        rt, case, 2, 2, &x, nx, &z, nz, &phases, np, &vacuum, nv, &list, nl, &string, ns, room,
-    )
-}
-
-// The same, with these in place of the last X part, the first Z part, the last phase, the vacuum, the list and the string.
-fn changed(
-    rt: &impl Print,
-    case: &[u8],
-    last: u64,
-    first: u64,
-    p: u8,
-    v: u64,
-    l: u64,
-    s: u64,
-) -> io::Result<()> {
-    let x = [1u64, 1, 2, last];
-    let z = [first, 1, 1, 3];
-    let phases = [0u8, 1, 0, p];
-    let vacuum = [v; 1];
-    let list = [l; 1];
-    let string = [s; 1];
-    three(rt, case, 2, 2, &x, &z, &phases, &vacuum, &list, &string, 5)
-}
-
-// 256 modes on 256 qubits, with so many words or phases of each slice. All rows are the identity, so X parts agree and d is 3, odd. Mode 255 is occupied if `top` is 2^63.
-fn largest(
-    rt: &impl Print,
-    case: &[u8],
-    top: u64,
-    nx: usize,
-    nz: usize,
-    np: usize,
-    nv: usize,
-    nl: usize,
-    ns: usize,
-    room: usize,
-) -> io::Result<()>
-    requires { (nx ≤ 2048) × (nz ≤ 2048) × (np ≤ 512) × (nv ≤ 4) × (nl ≤ 4) × (ns ≤ 4) × (room ≤ 5) }
-{
-    let x = [0u64; 2048];
-    let z = [0u64; 2048];
-    let phases = [0u8; 512];
-    let vacuum = [0u64; 4];
-    let list = [0u64, 0, 0, top];
-    let string = [0u64; 4];
-    parts(
-        rt, case, 256, 256, &x, nx, &z, nz, &phases, np, &vacuum, nv, &list, nl, &string, ns, room,
-    )
-}
-
-fn sizes(rt: &impl Print) -> io::Result<()> {
-    sized(rt, b"2 modes", 2, 2)?;
-    sized(rt, b"0 modes", 0, 2)?;
-    sized(rt, b"257 modes", 257, 2)?;
-    sized(rt, b"the largest number of modes", 18446744073709551615, 2)?;
-    sized(rt, b"0 qubits", 2, 0)?;
-    sized(rt, b"257 qubits", 2, 257)?;
-    sized(rt, b"the largest number of qubits", 2, 18446744073709551615)
-}
-
-fn one_short(rt: &impl Print) -> io::Result<()> {
-    cut(rt, b"x one short", 3, 4, 4, 1, 1, 1, 5)?;
-    cut(rt, b"z one short", 4, 3, 4, 1, 1, 1, 5)?;
-    cut(rt, b"phases one short", 4, 4, 3, 1, 1, 1, 5)?;
-    cut(rt, b"vacuum one short", 4, 4, 4, 0, 1, 1, 5)?;
-    cut(rt, b"list one short", 4, 4, 4, 1, 0, 1, 5)?;
-    cut(rt, b"string one short", 4, 4, 4, 1, 1, 0, 5)?;
-    cut(rt, b"out one short", 4, 4, 4, 1, 1, 1, 0)
+        rt,
+        "vacuum one short",
+        lent.with_vacuum(but_last(lent.vacuum)),
+    )?;
+    three(rt, "list one short", lent.with_list(but_last(lent.list)))?;
+    three(
+        rt,
+        "string one short",
+        lent.with_string(but_last(lent.string)),
+    )?;
+    let room = but_last(lent.list).len();
+    three(rt, "out one short", Lent { room, ..lent })
 }
 
 fn bad_values(rt: &impl Print) -> io::Result<()> {
-    changed(rt, b"stray bit in x", 6, 0, 1, 0, 3, 3)?;
-    changed(rt, b"stray bit in z", 2, 4, 1, 0, 3, 3)?;
-    changed(rt, b"stray bit in the vacuum", 2, 0, 1, 4, 3, 3)?;
-    changed(rt, b"stray bit in the list", 2, 0, 1, 0, 7, 3)?;
-    changed(rt, b"stray bit in the string", 2, 0, 1, 0, 3, 7)?;
-    changed(rt, b"phase 4", 2, 0, 4, 0, 3, 3)?;
-    changed(rt, b"phase 255", 2, 0, 255, 0, 3, 3)
+    let good = TWO_MODES;
+    three(rt, "stray bit in x", good.with_x(&[1, 1, 2, 6]))?;
+    three(rt, "stray bit in z", good.with_z(&[4, 1, 1, 3]))?;
+    three(rt, "stray bit in the vacuum", good.with_vacuum(&[4]))?;
+    three(rt, "stray bit in the list", good.with_list(&[7]))?;
+    three(rt, "stray bit in the string", good.with_string(&[7]))?;
+    three(rt, "phase 4", good.with_phases(&[0, 1, 0, 4]))?;
+    three(rt, "phase 255", good.with_phases(&[0, 1, 0, 255]))
 }
 
 fn largest_sizes(rt: &impl Print) -> io::Result<()> {
-    largest(rt, b"256 modes", 0, 2048, 2048, 512, 4, 4, 4, 5)?;
-    largest(
+    three(
         rt,
-        b"256 modes, the last occupied",
-        9223372036854775808,
-        2048,
-        2048,
-        512,
-        4,
-        4,
-        4,
-        5,
+        "256 modes",
+        Lent {
+            size: "",
+            ..LARGEST
+        },
     )?;
-    largest(
+    three(
         rt,
-        b"256 modes, x one short",
-        0,
-        2047,
-        2048,
-        512,
-        4,
-        4,
-        4,
-        5,
+        "the last occupied",
+        LARGEST.with_list(&[0, 0, 0, 1 << 63]),
     )?;
-    largest(
-        rt,
-        b"256 modes, z one short",
-        0,
-        2048,
-        2047,
-        512,
-        4,
-        4,
-        4,
-        5,
-    )?;
-    largest(
-        rt,
-        b"256 modes, phases one short",
-        0,
-        2048,
-        2048,
-        511,
-        4,
-        4,
-        4,
-        5,
-    )?;
-    largest(
-        rt,
-        b"256 modes, vacuum one short",
-        0,
-        2048,
-        2048,
-        512,
-        3,
-        4,
-        4,
-        5,
-    )?;
-    largest(
-        rt,
-        b"256 modes, list one short",
-        0,
-        2048,
-        2048,
-        512,
-        4,
-        3,
-        4,
-        5,
-    )?;
-    largest(
-        rt,
-        b"256 modes, string one short",
-        0,
-        2048,
-        2048,
-        512,
-        4,
-        4,
-        3,
-        5,
-    )?;
-    largest(
-        rt,
-        b"256 modes, out one short",
-        0,
-        2048,
-        2048,
-        512,
-        4,
-        4,
-        4,
-        3,
-    )
+    one_short(rt, LARGEST)
 }
 
 fn main(rt: HostRuntime) -> io::Result<()> {
     sizes(&rt)?;
-    one_short(&rt)?;
+    one_short(&rt, TWO_MODES)?;
     bad_values(&rt)?;
     largest_sizes(&rt)
 }

@@ -1,16 +1,12 @@
 -- The answer of `maxnto`: which test refuses, and one outcome for each input.
-use Prim.Native.Nat.{ℕ, ◌*◌, ◌^◌, ◌≤◌, ◌<◌}
+use Prim.Native.Nat.{ℕ, ◌*◌, ◌^◌, ◌<◌}
 use native.Mathlib.Nat.{lt_of_lt_of_le}
 use mathlib.Core.Path.{◌≡◌}
 use mathlib.Core.List.{List}
 use mathlib.Core.Bool.{true, false}
 use Rattle.refusal.specs.declared.Refusal.TheVariants.{Size, OddModes, Short}
-use Rattle.refusal.specs.declared.Answer.{Answer}
-use Rattle.refusal.specs.declared.Answer.TheVariants.{Done, Refused}
-use Rattle.refusal.specs.Numbers.{bare}
-use borrow.Author.Tests.{ltb-false}
-use lib.Dec.{eqb, ltb}
-use Rattle.refusal.proofs.Bools.{or_right}
+use Rattle.std.specs.Prelude.{Ok, Err}
+use Rattle.refusal.specs.Numbers.{Answer, bare}
 use Rattle.refusal.proofs.Outcome.{one_outcome, answered_injective}
 use lib.ListN.{get_or, drop}
 use lib.Pow.{pow_mono}
@@ -23,15 +19,15 @@ use Rattle.maxnto.specs.Call.{Input, bad_modes, odd_modes, too_short, answer, xs
 use Rattle.maxnto.proofs.Phases.{x_part_lt, z_part_lt}
 
 module _ (i : Input) where
-  pub by_size : bad_modes i.n ≡ true → Built i (Refused Size) i.xs i.zs i.ps
+  pub by_size : bad_modes i.n ≡ true → Built i (Err Size) i.xs i.zs i.ps
   unfolding answer xs_left zs_left ps_left
   by_size h = record { told = rw h; x_parts = rw h; z_parts = rw h; phases = rw h }
 
-  pub by_odd : bad_modes i.n ≡ false → odd_modes i.n ≡ true → Built i (Refused OddModes) i.xs i.zs i.ps
+  pub by_odd : bad_modes i.n ≡ false → odd_modes i.n ≡ true → Built i (Err OddModes) i.xs i.zs i.ps
   unfolding answer xs_left zs_left ps_left
   by_odd h k = record { told = rw (h, k); x_parts = rw (h, k); z_parts = rw (h, k); phases = rw (h, k) }
 
-  pub by_short : bad_modes i.n ≡ false → odd_modes i.n ≡ false → too_short i ≡ true → Built i (Refused Short) i.xs i.zs i.ps
+  pub by_short : bad_modes i.n ≡ false → odd_modes i.n ≡ false → too_short i ≡ true → Built i (Err Short) i.xs i.zs i.ps
   unfolding answer xs_left zs_left ps_left
   by_short h k l = record { told = rw (h, k, l); x_parts = rw (h, k, l); z_parts = rw (h, k, l); phases = rw (h, k, l) }
 
@@ -39,7 +35,7 @@ module _ (i : Input) where
       → xs ≡ laid (words_for i.n) (x_part i.n) (2 * i.n) i.xs
       → zs ≡ laid (words_for i.n) (z_part i.n) (2 * i.n) i.zs
       → ps ≡ listed (phase_of i.n) (2 * i.n) i.ps
-      → Built i Done xs zs ps
+      → Built i (Ok tt) xs zs ps
   unfolding answer xs_left zs_left ps_left
   by_none h k l xs zs ps x z p = record { told = rw (h, k, l); x_parts = rw (h, k, l) x; z_parts = rw (h, k, l) z; phases = rw (h, k, l) p }
 
@@ -47,10 +43,6 @@ pub maxnto_outcome : (i : Input) (r s : Answer) (xs xs' zs zs' ps ps' : List ℕ
     → (r ≡ s) × ((xs ≡ xs') × ((zs ≡ zs') × (ps ≡ ps')))
 maxnto_outcome i r s xs xs' zs zs' ps ps' m n =
     (answered_injective (one_outcome m.told n.told), (one_outcome m.x_parts n.x_parts, (one_outcome m.z_parts n.z_parts, one_outcome m.phases n.phases)))
-
-pub modes_small : (n : ℕ) → bad_modes n ≡ false → n ≤ 256
-unfolding bad_modes
-modes_small n h = ltb-false 256 n (or_right (eqb n 0) (ltb 256 n) h)
 
 -- ---- done: row k of the storage is row k of the formula
 

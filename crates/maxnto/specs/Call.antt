@@ -1,7 +1,6 @@
 -- What `maxnto` answers and leaves: the rows, or the first refusal. The order is 1, 18, 2.
 use Rattle.std.specs.Prelude.{ℕ, ◌*◌, ◌%◌, ◌≡◌, List, [], ◌∷◌, Bool, ◌||◌, eqb, ltb, length}
-use Rattle.refusal.specs.declared.Answer.{Answer}
-use Rattle.refusal.specs.Numbers.{Paper, answered}
+use Rattle.refusal.specs.Numbers.{Paper, Answer, answered}
 use Rattle.refusal.specs.Table.{◌gives◌, first_of, ◌of◌, short, on_done}
 use Rattle.dense_block.specs.Words.{words_for}
 use Rattle.dense_block.specs.Blocks.{laid, listed}

@@ -1,9 +1,9 @@
 -- The answer of `multiply`: which test refuses, and what the words written stand for. One outcome for each input. What `meet` makes of parities: the sign of the phase, and
 -- whether the rows commute, which is whether the two orders' phases are equal.
-use Prim.Native.Nat.{ℕ, zero, suc, ◌+◌, ◌*◌, ◌%◌, ◌≤◌, ◌<◌}
+use Prim.Native.Nat.{ℕ, zero, suc, ◌+◌, ◌*◌, ◌%◌, ◌<◌}
 use native.Mathlib.Omega.{arith}
 use mathlib.Core.Path.{◌≡◌, refl, sym, ap, ◌∙◌}
-use mathlib.Core.List.{List, ◌++◌}
+use mathlib.Core.List.{List, [], ◌∷◌, ◌++◌}
 use mathlib.Core.Logic.{◌⊎◌, inl, inr}
 use mathlib.Core.Bool.{Bool, true, false, not, ◌||◌}
 use borrow.Author.Tests.{eq-eqb, ne_eqb}
@@ -11,58 +11,74 @@ use lib.Dec.{eqb}
 use lib.ListN.{length, take, drop}
 use lib.Seq.{length-take-le}
 use lib.Bits.{bit_xor}
+use Rattle.std.specs.Prelude.{Result, Ok, Err}
+use Rattle.refusal.specs.Table.{outside, Lent, ◌of◌}
+use Rattle.refusal.proofs.Rooms.{Hold, hold}
+use Rattle.refusal.specs.declared.Refusal.{Refusal}
 use Rattle.refusal.specs.declared.Refusal.TheVariants.{Size, Short, Value}
 use Rattle.refusal.proofs.Outcome.{one_outcome, paper_injective, refused_number}
 use Rattle.algebra.specs.Rows.{Row, common, dot, times, clash}
 use Rattle.algebra.proofs.Digits.{zero_or_one}
 use Rattle.algebra.proofs.Dots.{dot_lt, twice_dot}
 use Rattle.algebra.proofs.RowLaws.{clash_dot, clash_lt, orders, anticommute_differ}
-use Rattle.dense_block.specs.Words.{value, words_for, filled, digit, odd, xors}
-use Rattle.dense_block.proofs.Values.{Words, words_take, filled_by}
-use Rattle.dense_block.proofs.Alongs.{length_along, words_xors, value_xors}
-use Rattle.pauli.specs.declared.Phase.{Phase}
+use Rattle.dense_block.specs.Words.{value, words_for, words_of, filled, digit, odd}
 use Rattle.pauli.specs.declared.Meeting.{Meeting}
-use Rattle.pauli.specs.declared.Product.{Product}
-use Rattle.pauli.specs.declared.Product.TheVariants.{Done, Refused}
-use Rattle.pauli.specs.Product.{LentRow, Input, trimmed, row_of, left_row, right_row, product, commuting, Meets, bad_columns, bad_row, too_short, refused, Told, product_paper, multiplied, product_x, product_z, Multiplied}
+use Rattle.pauli.specs.Product.{LentRow, Input, first_words, trimmed, row_of, product, commuting, Meets, bad_row, too_short, refused, Told, product_paper, multiplied, product_x, product_z, Multiplied}
 
 abbrev pub value_test : Input → Bool
 value_test i = bad_row i.q (trimmed i.q i.left) || bad_row i.q (trimmed i.q i.right)
 
 -- ---- which test refuses
 
+abbrev lents : Input → List Lent
+lents i =
+    (words_for i.q of length i.left.xs) ∷ (words_for i.q of length i.left.zs)
+    ∷ (words_for i.q of length i.right.xs) ∷ (words_for i.q of length i.right.zs)
+    ∷ (words_for i.q of length i.out_xs) ∷ (words_for i.q of length i.out_zs) ∷ []
+
 module _ (i : Input) where
-  pub by_columns : bad_columns i.q ≡ true → Multiplied i (Refused Size) i.out_xs i.out_zs
+  pub by_columns : outside i.q ≡ true → Multiplied i (Err Size) i.out_xs i.out_zs
   unfolding multiplied product_x product_z refused
   by_columns h = record { answer = rw h; x_part = rw h; z_part = rw h }
 
-  pub by_short : bad_columns i.q ≡ false → too_short i ≡ true → Multiplied i (Refused Short) i.out_xs i.out_zs
+  pub by_short : outside i.q ≡ false → too_short i ≡ true → Multiplied i (Err Short) i.out_xs i.out_zs
   unfolding multiplied product_x product_z refused
   by_short h k = record { answer = rw (h, k); x_part = rw (h, k); z_part = rw (h, k) }
 
-  pub by_value : bad_columns i.q ≡ false → too_short i ≡ false → value_test i ≡ true → Multiplied i (Refused Value) i.out_xs i.out_zs
+  by_value : outside i.q ≡ false → too_short i ≡ false → value_test i ≡ true → Multiplied i (Err Value) i.out_xs i.out_zs
   unfolding multiplied product_x product_z refused
   by_value h k l = record { answer = rw (h, k, l); x_part = rw (h, k, l); z_part = rw (h, k, l) }
 
-  pub by_none : bad_columns i.q ≡ false → too_short i ≡ false → value_test i ≡ false → (f : Phase) (c : Bool) (xs zs : List ℕ)
-      → f.power ≡ (product i).p → c ≡ commuting (left_row i) (right_row i)
+  by_none : outside i.q ≡ false → too_short i ≡ false → value_test i ≡ false → (m : Meeting) (xs zs : List ℕ)
+      → Meets (trimmed i.q i.left) (trimmed i.q i.right) m
       → xs ≡ filled (words_for i.q) (product i).x i.out_xs → zs ≡ filled (words_for i.q) (product i).z i.out_zs
-      → Multiplied i (Done f c) xs zs
+      → Multiplied i (Ok m) xs zs
   unfolding multiplied product_x product_z refused
-  by_none h k l f c xs zs p m x z = record { answer = rw (h, k, l, p, m); x_part = rw (h, k, l) x; z_part = rw (h, k, l) z }
+  by_none h k l m xs zs met x z = record { answer = rw (h, k, l, met.phase, met.commute); x_part = rw (h, k, l) x; z_part = rw (h, k, l) z }
 
--- ---- what the words stand for
+  -- the slices are long enough
+  lengths_pass : too_short i ≡ false → Hold (lents i)
+  unfolding too_short
+  lengths_pass h = hold (lents i) h
 
--- the sum of two parts of w words, in the first words of a slice
-pub sum_filled : (w : ℕ) (xs ys os : List ℕ) → w ≤ length xs → w ≤ length ys → Words xs → Words ys
-    → xors (take w xs) (take w ys) ++ drop w os ≡ filled w (bit_xor (value (take w xs)) (value (take w ys))) os
-sum_filled w xs ys os h k p q =
-    let e = length-take-le w xs h in
-    let f = length-take-le w ys k in
-    let pa = words_take w xs p in
-    let pb = words_take w ys q in
-    filled_by (xors (take w xs) (take w ys)) os w (length_along bit_xor (take w xs) (take w ys) ∙ e) (words_xors (take w xs) (take w ys) pa pb)
-    ∙ ap (λ (v : ℕ). filled w v os) (value_xors (take w xs) (take w ys) (omega arith) pa pb)
+  -- the rows that the code has cut to the columns' words
+  module _ (w : ℕ) (s : w ≡ words_for i.q) (a b : LentRow) (e : a ≡ first_words w i.left) (f : b ≡ first_words w i.right) where
+    pub by_row : outside i.q ≡ false → too_short i ≡ false → (bad_row i.q a || bad_row i.q b) ≡ true → Multiplied i (Err Value) i.out_xs i.out_zs
+    by_row h k l = by_value h k (rw (e, f, s) at l)
+
+    pub by_words : outside i.q ≡ false → too_short i ≡ false → bad_row i.q a ≡ false → bad_row i.q b ≡ false
+        → (m : Meeting) (xs zs : List ℕ) → Meets a b m
+        → xs ≡ words_of (length (take w i.out_xs)) (bit_xor (value a.xs) (value b.xs))
+        → zs ≡ words_of (length (take w i.out_zs)) (bit_xor (value a.zs) (value b.zs))
+        → Multiplied i (Ok m) (xs ++ drop w i.out_xs) (zs ++ drop w i.out_zs)
+    by_words h k l n m xs zs met x z =
+        let held = lengths_pass k in
+        let good : (bad_row i.q a || bad_row i.q b) ≡ false = rw (l, n) in
+        by_none h k (rw (e, f, s) at good) m _ _ (rw (e, f, s) at met)
+        (rw (x, e, f, s, length-take-le _ _ held.1.1.1.1.0))
+        (rw (z, e, f, s, length-take-le _ _ held.1.1.1.1.1.0))
+
+-- ---- signs and parities
 
 pub digit_dot : (d : ℕ) → d < 2 → digit (eqb d 1) ≡ d
 digit_dot zero h = refl
@@ -108,15 +124,15 @@ meet_outcome l r a b m n =
     let k : a.commute ≡ b.commute = one_outcome m.commute n.commute in
     λ j. record { phase = record { power = p j }; commute = k j }
 
-pub product_injective : (r s : Product) → product_paper r ≡ product_paper s → r ≡ s
-product_injective (Done f c) (Done g d) e =
-    let p : f.power ≡ g.power = ap (λ (t : Told). t.phase) e in
-    let k : c ≡ d = ap (λ (t : Told). t.commute) e in
-    λ j. Done (record { power = p j }) (k j)
-product_injective (Done f c) (Refused s) e = absurd (refused_number s (sym (ap (λ (t : Told). t.told.number) e)))
-product_injective (Refused r) (Done g d) e = absurd (refused_number r (ap (λ (t : Told). t.told.number) e))
-product_injective (Refused r) (Refused s) e = ap Refused (paper_injective (ap (λ (t : Told). t.told) e))
+pub product_injective : (r s : Result Meeting Refusal) → product_paper r ≡ product_paper s → r ≡ s
+product_injective (Ok m) (Ok n) e =
+    let p : m.phase.power ≡ n.phase.power = ap (λ (t : Told). t.phase) e in
+    let k : m.commute ≡ n.commute = ap (λ (t : Told). t.commute) e in
+    λ j. Ok (record { phase = record { power = p j }; commute = k j })
+product_injective (Ok m) (Err s) e = absurd (refused_number s (sym (ap (λ (t : Told). t.told.number) e)))
+product_injective (Err r) (Ok n) e = absurd (refused_number r (ap (λ (t : Told). t.told.number) e))
+product_injective (Err r) (Err s) e = ap Err (paper_injective (ap (λ (t : Told). t.told) e))
 
-pub multiply_outcome : (i : Input) (r s : Product) (xs xs' zs zs' : List ℕ) → Multiplied i r xs zs → Multiplied i s xs' zs' → (r ≡ s) × ((xs ≡ xs') × (zs ≡ zs'))
+pub multiply_outcome : (i : Input) (r s : Result Meeting Refusal) (xs xs' zs zs' : List ℕ) → Multiplied i r xs zs → Multiplied i s xs' zs' → (r ≡ s) × ((xs ≡ xs') × (zs ≡ zs'))
 multiply_outcome i r s xs xs' zs zs' m n =
     (product_injective r s (one_outcome m.answer n.answer), (one_outcome m.x_part n.x_part, one_outcome m.z_part n.z_part))

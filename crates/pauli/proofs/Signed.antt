@@ -1,69 +1,39 @@
--- Signed differences and their remainder by 4, which never comes out negative. By cases on the sign, and for the few remainders on each.
-use Prim.Native.Nat.{ℕ, zero, suc, ◌+◌, ◌-◌, ◌/◌, ◌%◌, ◌≤◌, ◌<◌}
+-- Signed differences and their remainder by 4, which never comes out negative. By cases on the sign.
+use Prim.Native.Nat.{ℕ, zero, suc, ◌+◌, ◌-◌, ◌^◌, ◌%◌, ◌<◌}
 use native.Mathlib.Omega.{arith}
 use mathlib.Core.Path.{◌≡◌, refl}
 use mathlib.Core.Bool.{Bool, true, false, cond}
 use borrow.Author.Tests.{ltb-true, ltb-false}
 use lib.Dec.{ltb}
-use lib.IntN.{ℤ, pos, negsuc, neg_ℤ, sub_ℕ, ◌+ℤ◌, ◌-ℤ◌}
-use lib.Signed.{mag, quot_z, rem_z}
+use lib.IntN.{ℤ, pos, negsuc, nat_abs, ◌-ℤ◌}
+use lib.Signed.{mag}
+use mir.Syntax.{w32}
+use mir.Val.{SFits, to_z, of_z}
+use mir.ValLaws.{to_z-of_z}
+use Rattle.std.specs.Int.{int_rem_euclid}
 use Rattle.pauli.specs.Phases.{mod_four, letter_power}
 
--- ---- the difference of two numbers
+-- ---- a difference modulo 4
 
-mag_sub : (a b : ℕ) → mag (sub_ℕ a b) ≤ a + b
-mag_sub a b = go (ltb a b)
+-- which std's remainder gives as a whole number
+pub euclid : (z : ℤ) → nat_abs (int_rem_euclid z (pos 4)) ≡ mod_four z
+euclid (pos n) = refl
+euclid (negsuc n) = refl
+
+mag_difference : (a b k : ℕ) → a < k → b < k → mag (pos a -ℤ pos b) < k
+mag_difference a zero k h l = omega arith
+mag_difference a (suc b) k h l = go (ltb a (suc b))
   where
-    go : (t : Bool) → mag (cond t (negsuc (b - suc a)) (pos (a - b))) ≤ a + b
+    go : (t : Bool) → mag (cond t (negsuc (suc b - suc a)) (pos (a - suc b))) < k
     go true = omega arith
     go false = omega arith
 
-pub mag_difference : (a b : ℕ) → mag (pos a -ℤ pos b) ≤ a + b
-mag_difference a zero = omega arith
-mag_difference a (suc b) = mag_sub a (suc b)
-
--- ---- remainders
-
-pub mag_quotient : (z : ℤ) → mag (quot_z z (pos 4)) ≤ mag z
-mag_quotient (pos a) = omega arith
-mag_quotient (negsuc a) = go (suc a / 4) (omega arith)
-  where
-    go : (q : ℕ) → q ≤ a → mag (neg_ℤ (pos q)) ≤ a
-    go zero h = omega arith
-    go (suc q) h = omega arith
-
-pub mag_remainder : (z : ℤ) → mag (rem_z z (pos 4)) < 4
-mag_remainder (pos a) = omega arith
-mag_remainder (negsuc a) = go (suc a % 4) (omega arith)
-  where
-    go : (r : ℕ) → r < 4 → mag (neg_ℤ (pos r)) < 4
-    go zero h = omega arith
-    go (suc r) h = omega arith
-
-pub same_remainder : (z : ℤ) → mod_four (rem_z z (pos 4)) ≡ mod_four z
-same_remainder (pos a) = omega arith
-same_remainder (negsuc a) = go (suc a % 4) refl
-  where
-    go : (r : ℕ) → suc a % 4 ≡ r → mod_four (neg_ℤ (pos r)) ≡ 3 - a % 4
-    go zero h = omega arith
-    go (suc r) h = omega arith
-
--- a remainder of either sign, with 4 added
-pub raised : (r : ℤ) → mag r < 4 → rem_z (r +ℤ pos 4) (pos 4) ≡ pos (mod_four r)
-raised (pos zero) h = refl
-raised (pos (suc zero)) h = refl
-raised (pos (suc (suc zero))) h = refl
-raised (pos (suc (suc (suc zero)))) h = refl
-raised (pos (suc (suc (suc (suc n))))) h = absurd (omega arith)
-raised (negsuc zero) h = refl
-raised (negsuc (suc zero)) h = refl
-raised (negsuc (suc (suc zero))) h = refl
-raised (negsuc (suc (suc (suc zero)))) h = refl
-raised (negsuc (suc (suc (suc (suc n))))) h = absurd (omega arith)
-
-pub mag_raised : (r : ℤ) → mag r < 4 → mag (r +ℤ pos 4) < 9
-mag_raised (pos n) h = omega arith
-mag_raised (negsuc n) h = omega (arith, mag_sub 4 (suc n))
+-- the machine's reading of the difference of two numbers is the difference
+pub difference : (p ys : ℕ) {a b : ℤ} → a ≡ pos p → b ≡ pos ys → mag a < 2 ^ 31 → mag b < 2 ^ 31
+    → to_z w32 (of_z w32 (to_z w32 (of_z w32 a) -ℤ to_z w32 (of_z w32 b))) ≡ pos p -ℤ pos ys
+difference p ys {a} {b} e f h k =
+    let fits : SFits w32 (pos p -ℤ pos ys) = record { sfits = mag_difference p ys (2 ^ 31) (rw e at h) (rw f at k) } in
+    rw (to_z-of_z w32 a (record { sfits = h }), to_z-of_z w32 b (record { sfits = k }), e, f) (to_z-of_z w32 (pos p -ℤ pos ys) fits)
 
 pub mod_four_lt : (z : ℤ) → mod_four z < 4
 mod_four_lt (pos n) = omega arith

@@ -9,17 +9,17 @@ use mathlib.Core.Bool.{Bool, true, false, not, ◌||◌}
 use borrow.Author.Tests.{ltb-false, le-ltb}
 use lib.Dec.{eqb, ltb}
 use lib.ListN.{take}
+use Rattle.std.specs.Prelude.{Ok}
 use Rattle.refusal.specs.Numbers.{Paper, bare}
-use Rattle.refusal.specs.Table.{◌gives◌, first_of, on_done}
+use Rattle.refusal.specs.Table.{◌gives◌, first_of, outside, on_done}
 use Rattle.refusal.proofs.Bools.{or_left, or_right}
 use Rattle.algebra.specs.Rows.{Row, OnColumns, clash}
 use Rattle.algebra.proofs.RowLaws.{times_on, clash_lt, clash_comm, orders}
 use Rattle.dense_block.specs.Words.{value, words_for, filled, digit, strays}
 use Rattle.dense_block.proofs.Values.{written_back}
 use Rattle.dense_block.proofs.Strays.{below_of, no_strays}
-use Rattle.pauli.specs.declared.Phase.{Phase}
-use Rattle.pauli.specs.declared.Product.TheVariants.{Done}
-use Rattle.pauli.specs.Product.{LentRow, Input, trimmed, row_of, left_row, right_row, product, commuting, bad_columns, bad_row, too_short, refused, Told, multiplied, product_x, product_z, Multiplied, Whole}
+use Rattle.pauli.specs.declared.Meeting.{Meeting}
+use Rattle.pauli.specs.Product.{LentRow, Input, given, trimmed, row_of, left_row, right_row, product, commuting, bad_row, too_short, refused, Told, multiplied, product_x, product_z, Multiplied, Whole}
 use Rattle.pauli.proofs.Products.{value_test, commute_orders}
 
 -- ---- rows and words
@@ -56,14 +56,14 @@ written_whole q r p xs zs oxs ozs on e f g = record { on_columns = on; stands = 
 
 -- ---- the call
 
-module _ (i : Input) (f : Phase) (c : Bool) (xs zs : List ℕ) (m : Multiplied i (Done f c) xs zs) where
+module _ (i : Input) (a : Meeting) (xs zs : List ℕ) (m : Multiplied i (Ok a) xs zs) where
   none_refused : refused i ≡ bare 0
   unfolding multiplied
   none_refused = sym (ap (λ (t : Told). t.told) m.answer)
 
   rows_good : value_test i ≡ false
   unfolding refused
-  rows_good = go (bad_columns i.q) (too_short i) (value_test i) (ap (λ (p : Paper). p.number) none_refused)
+  rows_good = go (outside i.q) (too_short i) (value_test i) (ap (λ (p : Paper). p.number) none_refused)
     where
       go : (a b c : Bool) → (first_of ((a gives 1) ∷ (b gives 2) ∷ (c gives 17) ∷ [])).number ≡ 0 → c ≡ false
       go true b c h = absurd (omega arith)
@@ -78,18 +78,18 @@ module _ (i : Input) (f : Phase) (c : Bool) (xs zs : List ℕ) (m : Multiplied i
       times_on i.q (row_of l) (row_of r) (good_on i.q l (or_left (bad_row i.q l) (bad_row i.q r) rows_good)) (good_on i.q r (or_right (bad_row i.q l) (bad_row i.q r) rows_good))
 
   -- the phase, and whether the rows commute
-  said : (f.power ≡ (product i).p) × (c ≡ commuting (left_row i) (right_row i))
+  said : (a.phase.power ≡ (product i).p) × (a.commute ≡ commuting (left_row i) (right_row i))
   unfolding multiplied
   said = (
     ap (λ (t : Told). t.phase) m.answer ∙ ap (λ (p : Paper). on_done p (product i).p 0) none_refused,
     ap (λ (t : Told). t.commute) m.answer ∙ ap (λ (p : Paper). on_done p (commuting (left_row i) (right_row i)) false) none_refused,
   )
 
-  pub multiply_whole : Whole i.q (product i) (record { p = f.power; xs = xs; zs = zs })
+  pub multiply_whole : Whole i.q (product i) (record { p = a.phase.power; xs = xs; zs = zs })
   unfolding product_x product_z
   multiply_whole =
       let done = none_refused in
-      written_whole i.q (product i) f.power xs zs i.out_xs i.out_zs product_on
+      written_whole i.q (product i) a.phase.power xs zs i.out_xs i.out_zs product_on
       said.0
       (m.x_part ∙ ap (λ (p : Paper). on_done p (filled (words_for i.q) (product i).x i.out_xs) i.out_xs) done)
       (m.z_part ∙ ap (λ (p : Paper). on_done p (filled (words_for i.q) (product i).z i.out_zs) i.out_zs) done)
@@ -103,15 +103,15 @@ clash_from (suc zero) h = refl
 clash_from (suc (suc k)) h = absurd (omega arith)
 
 -- both answers say the same of whether the rows commute: it equals comparing the two phases, which else differ by 2
-pub multiply_orders : (q : ℕ) (l r : LentRow) (oxs ozs oxs' ozs' : List ℕ) (f g : Phase) (c d : Bool) (xs zs xs' zs' : List ℕ)
-    → Multiplied (record { q = q; left = l; right = r; out_xs = oxs; out_zs = ozs }) (Done f c) xs zs
-    → Multiplied (record { q = q; left = r; right = l; out_xs = oxs'; out_zs = ozs' }) (Done g d) xs' zs'
-    → (c ≡ d) × (c ≡ eqb f.power g.power) × (f.power ≡ (g.power + 2 * digit (not c)) % 4)
-multiply_orders q l r oxs ozs oxs' ozs' f g c d xs zs xs' zs' m n =
+pub multiply_orders : (q : ℕ) (l r : LentRow) (oxs ozs oxs' ozs' : List ℕ) (f g : Meeting) (xs zs xs' zs' : List ℕ)
+    → Multiplied (given q l r oxs ozs) (Ok f) xs zs
+    → Multiplied (given q r l oxs' ozs') (Ok g) xs' zs'
+    → (f.commute ≡ g.commute) × (f.commute ≡ eqb f.phase.power g.phase.power) × (f.phase.power ≡ (g.phase.power + 2 * digit (not f.commute)) % 4)
+multiply_orders q l r oxs ozs oxs' ozs' f g xs zs xs' zs' m n =
     let a = row_of (trimmed q l) in
     let b = row_of (trimmed q r) in
-    let there = said (record { q = q; left = l; right = r; out_xs = oxs; out_zs = ozs }) f c xs zs m in
-    let back = said (record { q = q; left = r; right = l; out_xs = oxs'; out_zs = ozs' }) g d xs' zs' n in (
+    let there = said (given q l r oxs ozs) f xs zs m in
+    let back = said (given q r l oxs' ozs') g xs' zs' n in (
       there.1 ∙ ap (λ (k : ℕ). eqb k 0) (clash_comm a b) ∙ sym back.1,
       there.1 ∙ commute_orders a b ∙ ap₂ eqb (sym there.0) (sym back.0),
       omega (arith, there.0, back.0, orders a b, ap (λ (t : Bool). digit (not t)) there.1 ∙ clash_from (clash a b) (clash_lt a b)),

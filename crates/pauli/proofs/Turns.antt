@@ -6,7 +6,8 @@ use native.Mathlib.Omega.{arith}
 use mathlib.Core.Path.{◌≡◌, refl, sym, ap, ◌∙◌}
 use mathlib.Core.Bool.{Bool, true, false, ◌||◌, beq}
 use borrow.Author.Tests.{eq-eqb}
-use lib.Ieee.{Float, nan, inf, fin, neg, lt, eq, level, up, down}
+use lib.Ieee.{Float, nan, inf, fin, neg, eq, level, up, down}
+use Rattle.std.specs.Float.{float_is_finite}
 use Rattle.refusal.proofs.Bools.{not_not}
 use Rattle.pauli.specs.declared.Coefficient.{Coefficient}
 use Rattle.pauli.specs.declared.Marked.TheVariants.{Real}
@@ -89,17 +90,9 @@ same_equal (fin s (suc m) e) (inf t) h k = cc
 same_equal (fin s (suc m) e) (fin t zero d) h k = cc
 same_equal (fin s (suc m) e) (fin t (suc n) d) h k = ap (λ (y : Float). eq (fin s (suc m) e) y) (sym k) ∙ level_self s (suc m * up e * down e)
 
--- ---- finite numbers lie between the infinities
-
-pub between : (x : Float) → lt x (inf false) ≡ true → lt (inf true) x ≡ is_finite x
-unfolding lt
-between nan h = refl
-between (inf true) h = refl
-between (inf false) h = cc
-between (fin s m e) h = refl
-
-pub beyond : (x : Float) → lt x (inf false) ≡ false → false ≡ is_finite x
-unfolding lt
-beyond nan h = refl
-beyond (inf s) h = refl
-beyond (fin s m e) h = sym h
+-- std's test says the same
+pub std_finite : (x : Float) → float_is_finite x ≡ is_finite x
+unfolding float_is_finite
+std_finite nan = refl
+std_finite (inf s) = refl
+std_finite (fin s m e) = refl

@@ -1,13 +1,13 @@
 -- What `meet` says of two rows: the phase of their product, and whether they commute. What `multiply` answers and leaves: the product of two rows on q columns with the same
 -- yes or no, or the first refusal.
-use Rattle.std.specs.Prelude.{ℕ, ◌≡◌, List, [], ◌∷◌, Bool, false, ◌||◌, eqb, ltb, length, take}
+use Rattle.std.specs.Prelude.{ℕ, ◌≡◌, List, [], ◌∷◌, Bool, false, ◌||◌, eqb, ltb, length, take, Result, Ok, Err}
 use Rattle.refusal.specs.Numbers.{Paper, bare, paper}
-use Rattle.refusal.specs.Table.{◌gives◌, first_of, ◌of◌, short, on_done}
+use Rattle.refusal.specs.Table.{◌gives◌, first_of, ◌of◌, outside, short, on_done}
+use Rattle.refusal.specs.declared.Refusal.{Refusal}
 use Rattle.algebra.specs.Rows.{Row, OnColumns, times, clash}
 use Rattle.dense_block.specs.Words.{value, words_for, filled, strays}
 use Rattle.pauli.specs.declared.Meeting.{Meeting}
-use Rattle.pauli.specs.declared.Product.{Product}
-use Rattle.pauli.specs.declared.Product.TheVariants.{Done, Refused}
+use Rattle.pauli.specs.declared.Row.{Row as Lent}
 
 -- a row as it is lent: its phase, and the words of its X and Z parts
 pub record LentRow : Type 0 where
@@ -18,6 +18,10 @@ pub record LentRow : Type 0 where
 abbrev pub lent_row : ℕ → List ℕ → List ℕ → LentRow
 lent_row p xs zs = record { p = p; xs = xs; zs = zs }
 
+-- a row of the code
+abbrev pub lent : Lent → LentRow
+lent r = lent_row r.phase.power r.x.now r.z.now
+
 -- what is lent: columns, two rows, and room for the X and Z parts of the product
 pub record Input : Type 0 where
   pub q : ℕ
@@ -26,8 +30,8 @@ pub record Input : Type 0 where
   pub out_xs : List ℕ
   pub out_zs : List ℕ
 
-abbrev pub given : ℕ → ℕ → List ℕ → List ℕ → ℕ → List ℕ → List ℕ → List ℕ → List ℕ → Input
-given q p xs zs p' xs' zs' oxs ozs = record { q = q; left = lent_row p xs zs; right = lent_row p' xs' zs'; out_xs = oxs; out_zs = ozs }
+abbrev pub given : ℕ → LentRow → LentRow → List ℕ → List ℕ → Input
+given q left right oxs ozs = record { q = q; left = left; right = right; out_xs = oxs; out_zs = ozs }
 
 -- the first w words of each part
 abbrev pub first_words : ℕ → LentRow → LentRow
@@ -60,10 +64,6 @@ pub record Meets (left right : LentRow) (r : Meeting) : Type 0 where
 
 -- ---- refusals
 
--- columns 0 or above 256
-unfoldable pub bad_columns : ℕ → Bool
-bad_columns q = eqb q 0 || ltb 256 q
-
 -- phase above 3, stray high bit
 unfoldable pub bad_row : ℕ → LentRow → Bool
 bad_row q r = ltb 3 r.p || (strays r.xs q || strays r.zs q)
@@ -79,7 +79,7 @@ too_short i =
 unfoldable pub refused : Input → Paper
 refused i =
     first_of (
-    (bad_columns i.q gives 1)
+    (outside i.q gives 1)
     ∷ (too_short i gives 2)
     ∷ (bad_row i.q (trimmed i.q i.left) || bad_row i.q (trimmed i.q i.right) gives 17)
     ∷ [])
@@ -92,9 +92,9 @@ pub record Told : Type 0 where
   pub phase : ℕ
   pub commute : Bool
 
-abbrev pub product_paper : Product → Told
-product_paper (Done f c) = record { told = bare 0; phase = f.power; commute = c }
-product_paper (Refused r) = record { told = paper r; phase = 0; commute = false }
+abbrev pub product_paper : Result Meeting Refusal → Told
+product_paper (Ok m) = record { told = bare 0; phase = m.phase.power; commute = m.commute }
+product_paper (Err r) = record { told = paper r; phase = 0; commute = false }
 
 unfoldable pub multiplied : Input → Told
 multiplied i = record {
@@ -110,7 +110,7 @@ unfoldable pub product_z : Input → List ℕ
 product_z i = on_done (refused i) (filled (words_for i.q) (product i).z i.out_zs) i.out_zs
 
 -- what `multiply` promises of its answer r, and of the two parts at exit
-pub record Multiplied (i : Input) (r : Product) (xs zs : List ℕ) : Type 0 where
+pub record Multiplied (i : Input) (r : Result Meeting Refusal) (xs zs : List ℕ) : Type 0 where
   pub answer : product_paper r ≡ multiplied i
   pub x_part : xs ≡ product_x i
   pub z_part : zs ≡ product_z i

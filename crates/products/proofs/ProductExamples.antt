@@ -5,6 +5,7 @@ use mathlib.Core.List.{[], ◌∷◌}
 use lib.Count.{ones, ones_in, count_trailing_zeros}
 use lib.Ieee.{Float, fin, neg, binary64, of_bits, of_fields, odd}
 use lib.IntN.{pos}
+use Rattle.std.specs.Prelude.{Ok}
 use Rattle.refusal.specs.Search.{some_below}
 use Rattle.refusal.specs.Numbers.{bare}
 use Rattle.algebra.specs.Rows.{common}
@@ -13,8 +14,6 @@ use Rattle.pauli.specs.declared.Marked.TheVariants.{Real, Imag}
 use Rattle.pauli.specs.Phases.{letter_power}
 use Rattle.pauli.specs.Coefficients.{stands, SameNumber}
 use Rattle.pauli.specs.Product.{Whole}
-use Rattle.products.specs.declared.Multiplied.TheVariants.{Done}
-use Rattle.products.specs.declared.RealMultiplied.TheVariants.{Done as RealDone}
 use Rattle.majorana.specs.Sets.{Set, given, bad_size, bad_row_at, bad_rows}
 use Rattle.products.specs.Products.{product_of, product, product_size, product_short, some_high, product_bad, product_refused, Multiplies, RealMultiplies}
 use Rattle.products.proofs.Theorems.{real_whole, real_stands}
@@ -32,18 +31,18 @@ unfolding of_bits of_fields odd count_trailing_zeros
 two_bits = refl
 
 -- rows 0 then 1: p 1, ZI, so coefficient 2 is imaginary 2; the word past the first stays
-pub jordan_wigner_01 : RealMultiplies jordan_wigner (0 ∷ 1 ∷ []) two (7 ∷ 8 ∷ []) (9 ∷ []) (RealDone (record { power = 1 }) (Imag two)) (0 ∷ 8 ∷ []) (0b01 ∷ [])
+pub jordan_wigner_01 : RealMultiplies jordan_wigner (0 ∷ 1 ∷ []) two (7 ∷ 8 ∷ []) (9 ∷ []) (Ok ((record { power = 1 }), (Imag two))) (0 ∷ 8 ∷ []) (0b01 ∷ [])
 unfolding product_of product_size product_short some_high product_bad product_refused bad_size bad_rows bad_row_at some_below strays common ones ones_in letter_power
 jordan_wigner_01 = record { answer = refl; x_part = refl; z_part = refl }
 
 -- rows 1 then 0: p 3, ZI, so it is imaginary -2
-pub jordan_wigner_10 : RealMultiplies jordan_wigner (1 ∷ 0 ∷ []) two (7 ∷ 8 ∷ []) (9 ∷ []) (RealDone (record { power = 3 }) (Imag (neg two))) (0 ∷ 8 ∷ []) (0b01 ∷ [])
+pub jordan_wigner_10 : RealMultiplies jordan_wigner (1 ∷ 0 ∷ []) two (7 ∷ 8 ∷ []) (9 ∷ []) (Ok ((record { power = 3 }), (Imag (neg two)))) (0 ∷ 8 ∷ []) (0b01 ∷ [])
 unfolding product_of product_size product_short some_high product_bad product_refused bad_size bad_rows bad_row_at some_below strays common ones ones_in letter_power
 jordan_wigner_10 = record { answer = refl; x_part = refl; z_part = refl }
 
 -- the same with the complex coefficient 2: power 3 takes (2, 0) to (0, -2)
 pub jordan_wigner_complex : Multiplies jordan_wigner (1 ∷ 0 ∷ []) (record { re = two; im = fin false 0 (pos 0) }) (7 ∷ 8 ∷ []) (9 ∷ [])
-    (Done (record { power = 3 }) (record { re = fin false 0 (pos 0); im = neg two })) (0 ∷ 8 ∷ []) (0b01 ∷ [])
+    (Ok (record { power = 3 }, record { re = fin false 0 (pos 0); im = neg two })) (0 ∷ 8 ∷ []) (0b01 ∷ [])
 unfolding product_of product_size product_short some_high product_bad product_refused bad_size bad_rows bad_row_at some_below strays common ones ones_in letter_power neg
 jordan_wigner_complex = record { answer = refl; x_part = refl; z_part = refl }
 
@@ -56,7 +55,7 @@ jordan_wigner_stands : SameNumber (stands (Imag (neg two))) (record { re = fin f
 jordan_wigner_stands = (real_stands jordan_wigner (1 ∷ 0 ∷ []) (7 ∷ 8 ∷ []) (9 ∷ []) two _ _ _ _ _ _ jordan_wigner_10 jordan_wigner_complex).0.coefficient
 
 -- no rows: the identity, phase 0, and the coefficient as it was
-pub empty_product : RealMultiplies jordan_wigner [] two (7 ∷ []) (9 ∷ []) (RealDone (record { power = 0 }) (Real two)) (0 ∷ []) (0 ∷ [])
+pub empty_product : RealMultiplies jordan_wigner [] two (7 ∷ []) (9 ∷ []) (Ok ((record { power = 0 }), (Real two))) (0 ∷ []) (0 ∷ [])
 unfolding product_of product_size product_short some_high product_bad product_refused bad_size bad_rows bad_row_at some_below strays common ones ones_in letter_power
 empty_product = record { answer = refl; x_part = refl; z_part = refl }
 

@@ -1,29 +1,35 @@
 -- The product of rows of a set: multiplied from the left, row by row, it is the product of the definition; and a row multiplied on words is the algebra's product.
-use Prim.Native.Nat.{ℕ, suc, ◌+◌, ◌*◌, ◌≤◌, ◌<◌}
+use Prim.Native.Nat.{ℕ, suc, ◌+◌, ◌≤◌, ◌<◌}
 use native.Mathlib.Numerals.{add-one}
 use native.Mathlib.Omega.{arith}
-use mathlib.Core.Path.{◌≡◌, ap₂, ◌∙◌}
+use mathlib.Core.Path.{◌≡◌, sym, ap, ap₂, ◌∙◌}
 use mathlib.Core.List.{List, [], ◌∷◌}
-use mathlib.Core.Bool.{false}
-use borrow.Author.Tests.{leb-false}
+use mathlib.Core.Bool.{Bool, true, false}
+use borrow.Author.Tests.{le-leb, lt-leb, leb-false}
 use lib.Dec.{leb}
+use lib.Bits.{bit_xor}
 use lib.ListN.{length, get_or, drop, drop_of_length-le}
 use lib.Seq.{drop-cons}
-use Rattle.refusal.proofs.Searches.{none_at}
+use Rattle.std.proofs.Common.{MatchBool}
+use Rattle.std.specs.List.{HoldsAt, AllWithin}
+use Rattle.refusal.proofs.Searches.{some_of, none_of, none_at}
 use Rattle.algebra.specs.Rows.{Row, times, identity}
 use Rattle.algebra.specs.Modes.{Modes}
 use Rattle.algebra.proofs.RowLaws.{times_assoc, identity_times, times_identity}
-use Rattle.dense_block.specs.Words.{value, term_of, xors}
-use Rattle.dense_block.proofs.Values.{Words}
-use Rattle.dense_block.proofs.Alongs.{value_xors}
-use Rattle.dense_block.proofs.Terms.{words_term, length_term}
-use Rattle.majorana.specs.Sets.{row_at}
-use Rattle.majorana.specs.Held.{Fits}
+use Rattle.dense_block.specs.Words.{value}
 use Rattle.products.specs.Products.{product_of, some_high}
 use Rattle.products.specs.Private.{row_of}
-use Rattle.majorana.proofs.SetLaws.{x_row, z_row}
+use Rattle.pauli.specs.declared.Meeting.{Meeting}
+use Rattle.pauli.specs.Product.{LentRow, Meets, row_of as lent_row}
 
 -- ---- row numbers that are not too high
+
+-- what std says of `any` over the numbers
+pub high_by : (rows : ℕ) (ks : List ℕ) (r : Bool)
+    → MatchBool r ((k : ℕ) × (k < length ks) × HoldsAt (λ j. rows ≤ j) ks k) (AllWithin (λ j. j < rows) ks 0 (length ks)) → r ≡ some_high rows ks
+unfolding some_high
+high_by rows ks true h = sym (some_of (length ks) (λ i. leb rows (get_or ks i 0)) h.0 h.1 (le-leb _ _ (h.2 0)))
+high_by rows ks false h = sym (none_of (length ks) (λ i. leb rows (get_or ks i 0)) (λ k low. lt-leb _ _ (h k 0 (omega arith) low)))
 
 pub number_low : (rows : ℕ) (ks : List ℕ) → some_high rows ks ≡ false → (i : ℕ) → i < length ks → get_or ks i 0 < rows
 unfolding some_high
@@ -57,15 +63,7 @@ module _ (m : Modes) where
 
 -- ---- one row, on words
 
-module _ {n w : ℕ} {xs zs ps : List ℕ} (fits : Fits n w xs zs ps) (k : ℕ) (low : k < 2 * n) (px : Words xs) (pz : Words zs)
-    (us vs : List ℕ) (lu : length us ≡ w) (lv : length vs ≡ w) (pu : Words us) (pv : Words vs) where
-  -- with the phase of the product, the parts added word by word are the product
-  pub times_words : (f g : ℕ) → g ≡ (times (row_of f us vs) (row_at w xs zs ps k)).p
-      → row_of g (xors us (term_of w xs k)) (xors vs (term_of w zs k)) ≡ times (row_of f us vs) (row_at w xs zs ps k)
-  times_words f g e = λ i. record { p = e i; x = same_x i; z = same_z i }
-    where
-      same_x : value (xors us (term_of w xs k)) ≡ (times (row_of f us vs) (row_at w xs zs ps k)).x
-      same_x = value_xors us (term_of w xs k) (omega (arith, length_term w xs k (x_row fits k low))) pu (words_term w xs k px)
-
-      same_z : value (xors vs (term_of w zs k)) ≡ (times (row_of f us vs) (row_at w xs zs ps k)).z
-      same_z = value_xors vs (term_of w zs k) (omega (arith, length_term w zs k (z_row fits k low))) pv (words_term w zs k pz)
+-- two rows that the code has met, and the parts of the one added to those of the other
+pub times_met : {l r : LentRow} {row : Row} {m : Meeting} (us vs : List ℕ) → Meets l r m → lent_row r ≡ row
+    → value us ≡ bit_xor (value l.xs) (value r.xs) → value vs ≡ bit_xor (value l.zs) (value r.zs) → row_of m.phase.power us vs ≡ times (lent_row l) row
+times_met {l} us vs m e x z = (λ i. record { p = m.phase i; x = x i; z = z i }) ∙ ap (λ (row : Row). times (lent_row l) row) e

@@ -13,6 +13,8 @@ use mathlib.Core.List.{List, [], ◌∷◌}
 use mathlib.Core.Bool.{Bool, true, false, not, ◌||◌}
 use lib.Ieee.{Float}
 use lib.ListN.{length, get_or}
+use Rattle.std.specs.Prelude.{Result, Ok}
+use Rattle.refusal.specs.declared.Refusal.{Refusal}
 use Rattle.refusal.specs.Numbers.{Paper, bare}
 use Rattle.refusal.specs.Table.{◌gives◌, first_of, if_zero, on_done}
 use Rattle.refusal.proofs.Bools.{or_left, or_right, and_true}
@@ -30,11 +32,7 @@ use Rattle.pauli.proofs.Turns.{marked_stands}
 use Rattle.pauli.proofs.Theorems.{written_whole}
 use Rattle.majorana.specs.Sets.{Set, width, modes, bad_set}
 use Rattle.majorana.proofs.SetLaws.{phase_small, x_below, z_below}
-use Rattle.products.specs.declared.Multiplied.{Multiplied}
-use Rattle.products.specs.declared.Multiplied.TheVariants.{Done}
-use Rattle.products.specs.declared.RealMultiplied.{RealMultiplied}
-use Rattle.products.specs.declared.RealMultiplied.TheVariants.{Done as RealDone}
-use Rattle.products.specs.Products.{product_of, product, product_size, product_short, some_high, product_bad, product_refused, part_left, Told, zero_coefficient, multiplied_paper, complex_refused, Multiplies, RealTold, real_paper, real_refused, RealMultiplies, AsComplex}
+use Rattle.products.specs.Products.{product_of, product, product_size, product_short, some_high, product_bad, product_refused, part_left, Told, zero_coefficient, finite_parts, multiplied_paper, Makes, Multiplies, real_paper, RealMultiplies, AsComplex}
 use Rattle.products.proofs.ProductLaws.{number_low}
 
 -- ---- a product of rows on q columns
@@ -82,22 +80,28 @@ module _ (s : Set) (ks : List ℕ) (finite : Bool) (oxs ozs : List ℕ) (done : 
       (x ∙ ap (λ (t : Paper). part_left t s (product s ks).x oxs) done)
       (z ∙ ap (λ (t : Paper). part_left t s (product s ks).z ozs) done)
 
-module _ (s : Set) (ks : List ℕ) (oxs ozs : List ℕ) where
-  pub product_whole : (c d : Coefficient) (f : Phase) (xs zs : List ℕ) → Multiplies s ks c oxs ozs (Done f d) xs zs
-      → Whole s.q (product s ks) (record { p = f.power; xs = xs; zs = zs })
-  product_whole c d f xs zs h =
-      left_whole s ks _ oxs ozs (sym (ap (λ (t : Told). t.told) h.answer)) f.power xs zs (ap (λ (t : Told). t.phase) h.answer) h.x_part h.z_part
+-- of either kind of coefficient
+makes_whole : {A : Type 0} {finite : Bool} {turn : ℕ → A} {none : A} {s : Set} {ks oxs ozs : List ℕ} {made : Phase × A} {xs zs : List ℕ}
+    → Makes finite turn none s ks oxs ozs (Ok made) xs zs → Whole s.q (product s ks) (record { p = made.0.power; xs = xs; zs = zs })
+makes_whole {A} h = left_whole _ _ _ _ _ (sym (ap (λ (t : Told A). t.told) h.answer)) _ _ _ (ap (λ (t : Told A). t.phase) h.answer) h.x_part h.z_part
 
-  pub real_whole : (c : Float) (d : Marked) (f : Phase) (xs zs : List ℕ) → RealMultiplies s ks c oxs ozs (RealDone f d) xs zs
+module _ (s : Set) (ks : List ℕ) (oxs ozs : List ℕ) where
+  pub product_whole : (c d : Coefficient) (f : Phase) (xs zs : List ℕ) → Multiplies s ks c oxs ozs (Ok (f, d)) xs zs
       → Whole s.q (product s ks) (record { p = f.power; xs = xs; zs = zs })
-  real_whole c d f xs zs h =
-      left_whole s ks _ oxs ozs (sym (ap (λ (t : RealTold). t.told) h.answer)) f.power xs zs (ap (λ (t : RealTold). t.phase) h.answer) h.x_part h.z_part
+  product_whole c d f xs zs h = makes_whole h
+
+  pub real_whole : (c : Float) (d : Marked) (f : Phase) (xs zs : List ℕ) → RealMultiplies s ks c oxs ozs (Ok (f, d)) xs zs
+      → Whole s.q (product s ks) (record { p = f.power; xs = xs; zs = zs })
+  real_whole c d f xs zs h = makes_whole h
 
   -- ---- a real coefficient as a complex one
 
   module _ (x : Float) where
+    abbrev complex_refused : Paper
+    complex_refused = product_refused s ks (finite_parts (stands (Real x))) oxs ozs
+
     -- (x, 0) is finite exactly if x is
-    same_refusal : real_refused s ks x oxs ozs ≡ complex_refused s ks (stands (Real x)) oxs ozs
+    same_refusal : product_refused s ks (is_finite x) oxs ozs ≡ complex_refused
     same_refusal = ap (λ (finite : Bool). product_refused s ks finite oxs ozs) (sym (and_true (is_finite x)))
 
     -- turned by one power, or both zero
@@ -108,16 +112,16 @@ module _ (s : Set) (ks : List ℕ) (oxs ozs : List ℕ) where
         go zero = marked_stands k x
         go (suc n) = record { re = refl; im = refl }
 
-    pub real_stands : (r : RealMultiplied) (t : Multiplied) (xs zs xs' zs' : List ℕ)
+    pub real_stands : (r : Result (Phase × Marked) Refusal) (t : Result (Phase × Coefficient) Refusal) (xs zs xs' zs' : List ℕ)
         → RealMultiplies s ks x oxs ozs r xs zs → Multiplies s ks (stands (Real x)) oxs ozs t xs' zs'
         → AsComplex (real_paper r) (multiplied_paper t) × (xs ≡ xs') × (zs ≡ zs')
     real_stands r t xs zs xs' zs' a b =
         let e = same_refusal in
-        let c = same_coefficient (row_power (product s ks)) (complex_refused s ks (stands (Real x)) oxs ozs) in (
+        let c = same_coefficient (row_power (product s ks)) complex_refused in (
           record {
-            told = ap (λ (u : RealTold). u.told) a.answer ∙ e ∙ sym (ap (λ (u : Told). u.told) b.answer);
-            phase = ap (λ (u : RealTold). u.phase) a.answer ∙ ap (λ (p : Paper). on_done p (product s ks).p 0) e ∙ sym (ap (λ (u : Told). u.phase) b.answer);
-            coefficient = rw (ap (λ (u : RealTold). u.coefficient) a.answer, ap (λ (u : Told). u.coefficient) b.answer, e) c;
+            told = ap (λ (u : Told Marked). u.told) a.answer ∙ e ∙ sym (ap (λ (u : Told Coefficient). u.told) b.answer);
+            phase = ap (λ (u : Told Marked). u.phase) a.answer ∙ ap (λ (p : Paper). on_done p (product s ks).p 0) e ∙ sym (ap (λ (u : Told Coefficient). u.phase) b.answer);
+            coefficient = rw (ap (λ (u : Told Marked). u.coefficient) a.answer, ap (λ (u : Told Coefficient). u.coefficient) b.answer, e) c;
           },
           a.x_part ∙ ap (λ (p : Paper). part_left p s (product s ks).x oxs) e ∙ sym b.x_part,
           a.z_part ∙ ap (λ (p : Paper). part_left p s (product s ks).z ozs) e ∙ sym b.z_part,

@@ -1,20 +1,18 @@
 -- The product of rows of a set, given by their numbers, and what the two calls answer and leave.
-use Rattle.std.specs.Prelude.{ℕ, ◌*◌, ◌≡◌, List, [], ◌∷◌, Bool, not, ◌&&◌, ◌||◌, ltb, leb, Float, length, get_or}
+use Rattle.std.specs.Prelude.{ℕ, ◌*◌, ◌≡◌, List, [], ◌∷◌, Bool, not, ◌&&◌, ◌||◌, ltb, leb, Float, length, get_or, Result, Ok, Err}
 use Rattle.refusal.specs.Numbers.{Paper, bare, paper}
+use Rattle.refusal.specs.declared.Refusal.{Refusal}
 use Rattle.refusal.specs.Table.{◌gives◌, first_of, ◌of◌, short, on_done}
 use Rattle.refusal.specs.Search.{some_below}
 use Rattle.algebra.specs.Rows.{Row, times, identity}
 use Rattle.algebra.specs.Modes.{Modes}
 use Rattle.dense_block.specs.Words.{filled}
+use Rattle.pauli.specs.declared.Phase.{Phase}
 use Rattle.pauli.specs.declared.Coefficient.{Coefficient}
 use Rattle.pauli.specs.declared.Marked.{Marked}
 use Rattle.pauli.specs.declared.Marked.TheVariants.{Real}
 use Rattle.pauli.specs.Phases.{row_power}
 use Rattle.pauli.specs.Coefficients.{turned, marked, zero_float, stands, is_finite, SameNumber}
-use Rattle.products.specs.declared.Multiplied.{Multiplied}
-use Rattle.products.specs.declared.Multiplied.TheVariants.{Done, Refused}
-use Rattle.products.specs.declared.RealMultiplied.{RealMultiplied}
-use Rattle.products.specs.declared.RealMultiplied.TheVariants.{Done as RealDone, Refused as RealRefused}
 use Rattle.majorana.specs.Sets.{Set, width, modes, bad_size, set_lent, bad_set}
 
 -- the rows of these numbers multiplied in the order in which they stand; an empty product is the identity, phase 0
@@ -57,65 +55,61 @@ product_refused s ks finite oxs ozs =
 abbrev pub part_left : Paper → Set → ℕ → List ℕ → List ℕ
 part_left p s v os = on_done p (filled (width s) v os) os
 
--- ---- with a complex coefficient
+-- ---- with a coefficient of either kind, which comes back as an A
 
--- an answer in numbers: its number and pair, the phase of the product, and the coefficient; 0 and (0, 0) unless it is done
-pub record Told : Type 0 where
+-- an answer in numbers: its number and pair, the phase of the product, and the coefficient; 0 and `none` unless it is done
+pub record Told (A : Type 0) : Type 0 where
   pub told : Paper
   pub phase : ℕ
-  pub coefficient : Coefficient
+  pub coefficient : A
 
+abbrev pub product_paper : {A : Type 0} → A → Result (Phase × A) Refusal → Told A
+product_paper none (Ok made) = record { told = bare 0; phase = made.0.power; coefficient = made.1 }
+product_paper none (Err r) = record { told = paper r; phase = 0; coefficient = none }
+
+-- `finite`: the coefficient's parts are; `turn k`: what i to the power k makes of it. It is turned by the letter power of
+-- the product
+pub record Makes {A : Type 0} (finite : Bool) (turn : ℕ → A) (none : A) (s : Set) (ks oxs ozs : List ℕ)
+    (r : Result (Phase × A) Refusal) (xs zs : List ℕ) : Type 0 where
+  pub answer : product_paper none r ≡ record {
+    told = product_refused s ks finite oxs ozs;
+    phase = on_done (product_refused s ks finite oxs ozs) (product s ks).p 0;
+    coefficient = on_done (product_refused s ks finite oxs ozs) (turn (row_power (product s ks))) none;
+  }
+  pub x_part : xs ≡ part_left (product_refused s ks finite oxs ozs) s (product s ks).x oxs
+  pub z_part : zs ≡ part_left (product_refused s ks finite oxs ozs) s (product s ks).z ozs
+
+-- ---- with a complex coefficient
+
+-- (0, 0) unless it is done
 abbrev pub zero_coefficient : Coefficient
 zero_coefficient = record { re = zero_float; im = zero_float }
 
-abbrev pub multiplied_paper : Multiplied → Told
-multiplied_paper (Done f c) = record { told = bare 0; phase = f.power; coefficient = c }
-multiplied_paper (Refused r) = record { told = paper r; phase = 0; coefficient = zero_coefficient }
+abbrev pub multiplied_paper : Result (Phase × Coefficient) Refusal → Told Coefficient
+multiplied_paper r = product_paper zero_coefficient r
 
 abbrev pub finite_parts : Coefficient → Bool
 finite_parts c = is_finite c.re && is_finite c.im
 
-abbrev pub complex_refused : Set → List ℕ → Coefficient → List ℕ → List ℕ → Paper
-complex_refused s ks c oxs ozs = product_refused s ks (finite_parts c) oxs ozs
-
 -- the coefficient is multiplied by i to the letter power of the product
-pub record Multiplies (s : Set) (ks : List ℕ) (c : Coefficient) (oxs ozs : List ℕ) (r : Multiplied) (xs zs : List ℕ) : Type 0 where
-  pub answer : multiplied_paper r ≡ record {
-    told = complex_refused s ks c oxs ozs;
-    phase = on_done (complex_refused s ks c oxs ozs) (product s ks).p 0;
-    coefficient = on_done (complex_refused s ks c oxs ozs) (turned (row_power (product s ks)) c) zero_coefficient;
-  }
-  pub x_part : xs ≡ part_left (complex_refused s ks c oxs ozs) s (product s ks).x oxs
-  pub z_part : zs ≡ part_left (complex_refused s ks c oxs ozs) s (product s ks).z ozs
+abbrev pub Multiplies : Set → List ℕ → Coefficient → List ℕ → List ℕ
+    → Result (Phase × Coefficient) Refusal → List ℕ → List ℕ → Type 0
+Multiplies s ks c oxs ozs r xs zs = Makes (finite_parts c) (λ k. turned k c) zero_coefficient s ks oxs ozs r xs zs
 
 -- ---- with a real coefficient, which comes back marked
 
 -- the same, with real 0 unless it is done
-pub record RealTold : Type 0 where
-  pub told : Paper
-  pub phase : ℕ
-  pub coefficient : Marked
+abbrev pub real_paper : Result (Phase × Marked) Refusal → Told Marked
+real_paper r = product_paper (Real zero_float) r
 
-abbrev pub real_paper : RealMultiplied → RealTold
-real_paper (RealDone f c) = record { told = bare 0; phase = f.power; coefficient = c }
-real_paper (RealRefused r) = record { told = paper r; phase = 0; coefficient = Real zero_float }
-
-abbrev pub real_refused : Set → List ℕ → Float → List ℕ → List ℕ → Paper
-real_refused s ks c oxs ozs = product_refused s ks (is_finite c) oxs ozs
-
-pub record RealMultiplies (s : Set) (ks : List ℕ) (c : Float) (oxs ozs : List ℕ) (r : RealMultiplied) (xs zs : List ℕ) : Type 0 where
-  pub answer : real_paper r ≡ record {
-    told = real_refused s ks c oxs ozs;
-    phase = on_done (real_refused s ks c oxs ozs) (product s ks).p 0;
-    coefficient = on_done (real_refused s ks c oxs ozs) (marked (row_power (product s ks)) c) (Real zero_float);
-  }
-  pub x_part : xs ≡ part_left (real_refused s ks c oxs ozs) s (product s ks).x oxs
-  pub z_part : zs ≡ part_left (real_refused s ks c oxs ozs) s (product s ks).z ozs
+abbrev pub RealMultiplies : Set → List ℕ → Float → List ℕ → List ℕ
+    → Result (Phase × Marked) Refusal → List ℕ → List ℕ → Type 0
+RealMultiplies s ks c oxs ozs r xs zs = Makes (is_finite c) (λ k. marked k c) (Real zero_float) s ks oxs ozs r xs zs
 
 -- ---- the two calls on one input
 
 -- a real coefficient x and the complex one (x, 0): the same number and phase, and what is marked stands for what is turned, signs of zero apart
-pub record AsComplex (a : RealTold) (b : Told) : Type 0 where
+pub record AsComplex (a : Told Marked) (b : Told Coefficient) : Type 0 where
   pub told : a.told ≡ b.told
   pub phase : a.phase ≡ b.phase
   pub coefficient : SameNumber (stands a.coefficient) b.coefficient

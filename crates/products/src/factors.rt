@@ -1,200 +1,156 @@
-// The rows of a set multiplied one after the other, in words that the caller lends.
+// The rows of a set multiplied one after the other.
 
-ghost use Rattle.std.specs.Prelude.{◌≡◌, [], ◌∷◌, false, not, ◌||◌, ◌*◌, ◌≤◌, ◌<◌, length};
-ghost use Rattle.refusal.specs.Table.{◌of◌, short};
+ghost use Rattle.std.specs.Prelude.{◌≡◌, false, ◌*◌, ◌≤◌, ◌<◌, length, bit_xor};
 ghost use Rattle.algebra.specs.Rows.{times};
-ghost use Rattle.dense_block.specs.Words.{value};
-ghost use Rattle.majorana.specs.Sets.{given, row_at, modes_at, set_lent, bad_rows};
+ghost use Rattle.dense_block.specs.Words.{value, filled};
+ghost use Rattle.pauli.specs.Phases.{row_power};
+ghost use Rattle.majorana.specs.Sets.{lent};
 ghost use Rattle.majorana.specs.Held.{Fits};
-ghost use Rattle.products.specs.Products.{product_of, some_high};
-ghost use Rattle.products.specs.Private.{row_of, Makes, MakesOrRefuses};
+ghost use Rattle.products.specs.Products.{product_of, some_high, Makes};
+ghost use Rattle.products.specs.Phases.{phase_of};
 
-use dense_block::get_term;
-use pauli::Phase;
+use majorana::RowSet;
+use pauli::{Phase, Row, Turn};
 use refusal::Refusal;
-
-// The phase of the product and its letter power, or why there is none.
-#[derive(Clone, Copy)]
-pub enum Made {
-    Done(Phase, Phase),
-    Refused(Refusal),
-}
-
-// Whether slices of these lengths are too short for the rows and for w words of each part of the product.
-fn too_short(modes: usize, w: usize, x: usize, z: usize, p: usize, ox: usize, oz: usize) -> bool
-    requires { (modes ≤ 256) × (w ≤ 4) }
-    ensures { result ≡ short (set_lent modes w x z p ((w of ox) ∷ (w of oz) ∷ [])) }
-{
-    if majorana::rows_short(modes, w, x, z, p) {
-        return true;
-    }
-    if ox < w {
-        return true;
-    }
-    oz < w
-}
 
 // Whether a row number is at or above `rows`.
 fn too_high(rows: usize, numbers: &[usize]) -> bool
     ensures { result ≡ some_high rows numbers.now }
 {
-    let mut i = numbers.len();
-    while 0 < i {
-        i -= 1;
-        if rows <= numbers[i] {
-            return true;
-        }
-    }
-    false
+    numbers.iter().any(|k| rows <= *k)
 }
 
-// Whether one of the rows is bad, a row number at or above 2n, or a coefficient part not finite.
-fn bad_product(
-    modes: usize,
-    qubits: usize,
-    w: usize,
-    x: &[u64],
-    z: &[u64],
-    phases: &[u8],
+// A row's part added to the product's.
+fn add(part: &mut [u64], more: &[u64])
+    requires { length more.now ≤ length part.old }
+    ensures { value part.new ≡ bit_xor (value part.old) (value more.now) }
+{
+    dense_block::xor_assign(part, more);
+}
+
+// A set whose slices hold its rows, of w words a part.
+#[derive(Clone, Copy)]
+pub struct Rows<'a> {
+    pub set: RowSet<'a>,
+    pub w: usize,
+    ghost fits: { Fits set.modes w set.x.now set.z.now set.phases.now },
+}
+
+impl<'a> Rows<'a> {
+    ghost use Rattle.products.specs.Private.{row_of, modes_of};
+
+    // The product so far, i^f X^ax Z^az, times row k.
+    fn times(self, k: usize, f: Phase, ax: &mut [u64], az: &mut [u64]) -> Phase
+        requires { (k < 2 * self.set.modes) × (length ax.old ≡ self.w) × (length az.old ≡ self.w) }
+        ensures { row_of result.power ax.new az.new
+            ≡ times (row_of f.power ax.old az.old) ((modes_of self.entry).row k) }
+    {
+        let RowSet { x, z, phases, .. } = self.set;
+        let a = k * self.w;
+        let e = a + self.w;
+        let row = Row {
+            phase: Phase { power: phases[k] },
+            x: &x[a..e],
+            z: &z[a..e],
+        };
+        let so_far = Row {
+            phase: f,
+            x: ax,
+            z: az,
+        };
+        let met = pauli::meet(so_far, row);
+        add(ax, row.x);
+        add(az, row.z);
+        met.phase
+    }
+
+    // The product of the rows of these numbers, from the left, in ax and az, which hold the identity.
+    fn multiply(self, numbers: &[usize], ax: &mut [u64], az: &mut [u64]) -> Phase
+        requires { (some_high (2 * self.set.modes) numbers.now ≡ false) × (length ax.old ≡ self.w) × (length az.old ≡ self.w)
+            × (value ax.old ≡ 0) × (value az.old ≡ 0) }
+        ensures { row_of result.power ax.new az.new ≡ product_of (modes_of self.entry) numbers.now }
+    {
+        let mut f = Phase::default();
+        for k in numbers {
+            f = self.times(*k, f, ax, az);
+        }
+        f
+    }
+
+    // The same in ox and oz, by words of its own: its phase and its letter power.
+    fn product(self, numbers: &[usize], ox: &mut [u64], oz: &mut [u64]) -> (Phase, Phase)
+        requires { (some_high (2 * self.set.modes) numbers.now ≡ false)
+            × (self.w ≤ length ox.old) × (self.w ≤ length oz.old) }
+        ensures phase { result.0.power ≡ (product_of (modes_of self.entry) numbers.now).p }
+        ensures letters { result.1.power ≡ row_power (product_of (modes_of self.entry) numbers.now) }
+        ensures x_part { ox.new ≡ filled self.entry.w (product_of (modes_of self.entry) numbers.now).x ox.old }
+        ensures z_part { oz.new ≡ filled self.entry.w (product_of (modes_of self.entry) numbers.now).z oz.old }
+    {
+        let w = self.w;
+        let mut ax = [0u64; 4];
+        let mut az = [0u64; 4];
+        let ax = &mut ax[..w];
+        let az = &mut az[..w];
+        let f = self.multiply(numbers, ax, az);
+        ox[..w].copy_from_slice(ax);
+        oz[..w].copy_from_slice(az);
+        let product = Row {
+            phase: f,
+            x: ax,
+            z: az,
+        };
+        (f, product.letter_power())
+    }
+}
+
+// The phase of the product of rows of a set and its letter power, with a coefficient whose parts are finite or not: all
+// that does not depend on the kind of coefficient, so that it is compiled once.
+fn multiply(
+    set: RowSet,
     numbers: &[usize],
     finite: bool,
-) -> bool
-    requires { Fits modes w x.now z.now phases.now }
-    ensures { result ≡ (bad_rows modes qubits w x.now z.now phases.now || (some_high (2 * modes) numbers.now || not finite)) }
-{
-    if majorana::bad_rows(modes, qubits, w, x, z, phases) {
-        return true;
-    }
-    if too_high(2 * modes, numbers) {
-        return true;
-    }
-    !finite
-}
-
-// The product so far, i^f X^ax Z^az, times row k.
-fn times_row(
-    modes: usize,
-    w: usize,
-    x: &[u64],
-    z: &[u64],
-    phases: &[u8],
-    k: usize,
-    f: Phase,
-    ax: &mut [u64],
-    az: &mut [u64],
-) -> Phase
-    requires { Fits modes w x.now z.now phases.now × (k < 2 * modes) × (length ax.old ≡ w) × (length az.old ≡ w) }
-    ensures { row_of result.power ax.new az.new ≡ times (row_of f.power ax.old az.old) (row_at w x.now z.now phases.now k) }
-{
-    let p = Phase { power: phases[k] };
-    let met = pauli::meet(f, ax, az, p, get_term(x, w, k), get_term(z, w, k));
-    dense_block::xor_assign(ax, get_term(x, w, k));
-    dense_block::xor_assign(az, get_term(z, w, k));
-    met.phase
-}
-
-// The product of the rows, from the left, in ax and az, which hold the identity.
-fn times_rows(
-    modes: usize,
-    w: usize,
-    x: &[u64],
-    z: &[u64],
-    phases: &[u8],
-    numbers: &[usize],
-    ax: &mut [u64],
-    az: &mut [u64],
-) -> Phase
-    requires { Fits modes w x.now z.now phases.now × (some_high (2 * modes) numbers.now ≡ false) × (length ax.old ≡ w) × (length az.old ≡ w) × (value ax.old ≡ 0) × (value az.old ≡ 0) }
-    ensures { row_of result.power ax.new az.new ≡ product_of (modes_at modes w x.now z.now phases.now) numbers.now }
-{
-    let mut f = Phase { power: 0 };
-    let mut i = 0;
-    while i < numbers.len() {
-        f = times_row(modes, w, x, z, phases, numbers[i], f, ax, az);
-        i += 1;
-    }
-    f
-}
-
-// Multiplies the rows in ax and az, and copies the product to ox and oz.
-fn product_in(
-    modes: usize,
-    w: usize,
-    x: &[u64],
-    z: &[u64],
-    phases: &[u8],
-    numbers: &[usize],
-    ax: &mut [u64],
-    az: &mut [u64],
     ox: &mut [u64],
     oz: &mut [u64],
-) -> Made
-    requires { Fits modes w x.now z.now phases.now × (some_high (2 * modes) numbers.now ≡ false) × (length ax.old ≡ w) × (length az.old ≡ w) × (value ax.old ≡ 0) × (value az.old ≡ 0) × (w ≤ length ox.old) × (w ≤ length oz.old) }
-    ensures { Makes w (product_of (modes_at modes w x.now z.now phases.now) numbers.now) ox.old oz.old result ox.new oz.new }
+) -> Result<(Phase, Phase), Refusal>
+    ensures { Makes finite phase_of (phase_of 0) (lent set.entry) numbers.now ox.old oz.old result ox.new oz.new }
 {
-    let f = times_rows(modes, w, x, z, phases, numbers, ax, az);
-    let letters = pauli::letter_power(f, ax, az);
-    dense_block::copy(&mut ox[..w], ax);
-    dense_block::copy(&mut oz[..w], az);
-    Made::Done(f, letters)
-}
-
-// The same, with words of its own to work in.
-fn product_into(
-    modes: usize,
-    w: usize,
-    x: &[u64],
-    z: &[u64],
-    phases: &[u8],
-    numbers: &[usize],
-    ox: &mut [u64],
-    oz: &mut [u64],
-) -> Made
-    requires { Fits modes w x.now z.now phases.now × (some_high (2 * modes) numbers.now ≡ false) × (w ≤ length ox.old) × (w ≤ length oz.old) }
-    ensures { Makes w (product_of (modes_at modes w x.now z.now phases.now) numbers.now) ox.old oz.old result ox.new oz.new }
-{
-    let mut ax = [0u64; 4];
-    let mut az = [0u64; 4];
-    product_in(
+    let RowSet {
         modes,
-        w,
+        qubits,
         x,
         z,
         phases,
-        numbers,
-        &mut ax[..w],
-        &mut az[..w],
-        ox,
-        oz,
-    )
-}
-
-// The product of rows of a set, with a coefficient whose parts are finite or not: all that does not depend on the kind of coefficient.
-pub fn multiply(
-    modes: usize,
-    qubits: usize,
-    x: &[u64],
-    z: &[u64],
-    phases: &[u8],
-    numbers: &[usize],
-    finite: bool,
-    ox: &mut [u64],
-    oz: &mut [u64],
-) -> Made
-    ensures { MakesOrRefuses (given modes qubits x.now z.now phases.now) numbers.now finite ox.old oz.old result ox.new oz.new }
-{
-    if majorana::bad_size(modes, qubits) {
-        return Made::Refused(Refusal::Size);
-    }
-    if 512 < numbers.len() {
-        return Made::Refused(Refusal::Size);
+    } = set;
+    if majorana::bad_size(modes, qubits) || 512 < numbers.len() {
+        return Err(Refusal::Size);
     }
     let w = dense_block::words_for(qubits);
-    if too_short(modes, w, x.len(), z.len(), phases.len(), ox.len(), oz.len()) {
-        return Made::Refused(Refusal::Short);
+    if majorana::rows_short(modes, w, x.len(), z.len(), phases.len())
+        || ox.len() < w
+        || oz.len() < w
+    {
+        return Err(Refusal::Short);
     }
-    if bad_product(modes, qubits, w, x, z, phases, numbers, finite) {
-        return Made::Refused(Refusal::Value);
+    if majorana::bad_rows(modes, qubits, w, x, z, phases)
+        || too_high(2 * modes, numbers)
+        || !finite
+    {
+        return Err(Refusal::Value);
     }
-    product_into(modes, w, x, z, phases, numbers, ox, oz)
+    Ok(Rows { set, w }.product(numbers, ox, oz))
+}
+
+// The product of rows of a set, with a coefficient of either kind.
+pub fn product<T: Turn>(
+    set: RowSet,
+    numbers: &[usize],
+    c: T,
+    ox: &mut [u64],
+    oz: &mut [u64],
+) -> Result<(Phase, T::Turned), Refusal>
+    ensures { (none : T.Turned)
+        → Makes (T.finite c) (λ k. T.turned k c) none (lent set.entry) numbers.now ox.old oz.old result ox.new oz.new }
+{
+    let (f, letters) = multiply(set, numbers, c.is_finite(), ox, oz)?;
+    Ok((f, c.turn(letters)))
 }

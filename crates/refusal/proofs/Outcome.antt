@@ -6,9 +6,8 @@ use mathlib.Core.List.{List, [], ◌∷◌}
 use lib.ListN.{get_or}
 use Rattle.refusal.specs.declared.Refusal.{Refusal}
 use Rattle.refusal.specs.declared.Refusal.TheVariants.{Size, Short, Qubits, Child, SelfChild, SecondParent, SecondEntry, Roots, Leaf, Commuting, Dependent, NoVacuum, Vacuum, Undecodable, Unencodable, Malformed, Value, OddModes}
-use Rattle.refusal.specs.declared.Answer.{Answer}
-use Rattle.refusal.specs.declared.Answer.TheVariants.{Done, Refused}
-use Rattle.refusal.specs.Numbers.{Paper, paper, answered}
+use Rattle.std.specs.Prelude.{Ok, Err}
+use Rattle.refusal.specs.Numbers.{Paper, paper, Answer, answered}
 use Rattle.refusal.specs.Table.{if_zero}
 
 -- what meets an equation is settled by it
@@ -23,9 +22,9 @@ refusals p =
 
 -- the answer that a number and a pair stand for
 abbrev answer_of : Paper → Answer
-answer_of p = if_zero p.number Done (Refused (get_or (refusals p) (p.number - 1) Size))
+answer_of p = if_zero p.number (Ok tt) (Err (get_or (refusals p) (p.number - 1) Size))
 
-of_paper : (r : Refusal) → answer_of (paper r) ≡ Refused r
+of_paper : (r : Refusal) → answer_of (paper r) ≡ Err r
 of_paper Size = refl
 of_paper Short = refl
 of_paper Qubits = refl
@@ -46,18 +45,18 @@ of_paper Value = refl
 of_paper OddModes = refl
 
 of_answered : (a : Answer) → answer_of (answered a) ≡ a
-of_answered Done = refl
-of_answered (Refused r) = of_paper r
+of_answered (Ok tt) = refl
+of_answered (Err r) = of_paper r
 
 pub answered_injective : {a b : Answer} → answered a ≡ answered b → a ≡ b
 answered_injective {a} {b} e = sym (of_answered a) ∙ ap answer_of e ∙ of_answered b
 
 pub paper_injective : {r s : Refusal} → paper r ≡ paper s → r ≡ s
-paper_injective {r} {s} e = let same : ◌≡◌ {A = Answer} (Refused r) (Refused s) = answered_injective e in cc
+paper_injective {r} {s} e = let same : ◌≡◌ {A = Answer} (Err r) (Err s) = answered_injective e in cc
 
 -- a refusal's number is not 0
 pub refused_number : (r : Refusal) → (paper r).number ≡ 0 → ⊥
 refused_number r e =
-    let same : ◌≡◌ {A = Answer} (Refused r) Done = sym (of_paper r) ∙ ap (λ (k : ℕ). if_zero k Done (Refused (get_or (refusals (paper r)) (k - 1) Size))) e in
+    let same : ◌≡◌ {A = Answer} (Err r) (Ok tt) = sym (of_paper r) ∙ ap (λ (k : ℕ). if_zero k (Ok tt) (Err (get_or (refusals (paper r)) (k - 1) Size))) e in
     let z : ◌≡◌ {A = ℕ} 0 1 = cc in
     omega arith

@@ -1,9 +1,7 @@
 -- The number of each refusal, and the pair that 10 carries: the table of the numbers handed back.
-use Rattle.std.specs.Prelude.{ℕ}
+use Rattle.std.specs.Prelude.{ℕ, Result, Ok, Err}
 use Rattle.refusal.specs.declared.Refusal.{Refusal}
 use Rattle.refusal.specs.declared.Refusal.TheVariants.{Size, Short, Qubits, Child, SelfChild, SecondParent, SecondEntry, Roots, Leaf, Commuting, Dependent, NoVacuum, Vacuum, Undecodable, Unencodable, Malformed, Value, OddModes}
-use Rattle.refusal.specs.declared.Answer.{Answer}
-use Rattle.refusal.specs.declared.Answer.TheVariants.{Done, Refused}
 
 -- an answer in numbers: 0 is done; the pair is that of 10, and 0 and 0 in every other answer
 pub record Paper : Type 0 where
@@ -35,6 +33,11 @@ paper Malformed = bare 16
 paper Value = bare 17
 paper OddModes = bare 18
 
-abbrev pub answered : Answer → Paper
-answered Done = bare 0
-answered (Refused r) = paper r
+-- the answer of a call that hands back nothing more: done, or why it refused
+abbrev pub Answer : Type 0
+Answer = Result (Unit {0}) Refusal
+
+-- what a call answered, in numbers
+abbrev pub answered : {A : Type 0} → Result A Refusal → Paper
+answered (Ok a) = bare 0
+answered (Err r) = paper r

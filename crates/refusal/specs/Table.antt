@@ -18,6 +18,11 @@ first_of ((false gives k) ∷ rules) = first_of rules
 first_of ((pair i j names k) ∷ rules) = record { number = k; first = i; second = j }
 first_of ((no_pair names k) ∷ rules) = first_of rules
 
+-- ---- 1: 0 or above 256
+
+abbrev pub outside : ℕ → Bool
+outside k = eqb k 0 || ltb 256 k
+
 -- ---- 2: a lent slice is shorter than stated
 
 infix 20 ◌of◌

@@ -1,15 +1,19 @@
 // The numbers that the calls hand back, as an enum with a case for each refusal.
 //
 //   Refusal   why a call refused: a case for each number, 10 with its pair; `number` hands the number back
-//   Answer    done, or refused: the answer of every call that hands back nothing more; `number` is 0 for done
+//   number    the number of what a call answered: 0 where it is done
+//   outside   whether a number of modes, qubits or columns is one that 1 refuses
+//   Lent      a lent slice by its length, and how much of it is needed; `any_short` is whether 2 refuses one of several
 
 #![tactic(auto)]
 
 ghost use Rattle.std.specs.Prelude.{◌≡◌};
 ghost use Rattle.refusal.specs.Numbers.{paper, answered};
+ghost use Rattle.refusal.specs.Table.{outside, short};
+ghost use Rattle.refusal.specs.Slices.{lengths};
 
 // A case's number is the one that stands above it.
-#[derive(Clone, Copy)]
+#[derive(Clone, Copy, Debug, PartialEq, Eq)]
 pub enum Refusal {
     // 1: modes 0 or above 256, qubits 0 or above 256, a flatpack qubit above 255, a product of more than 512 rows.
     Size,
@@ -49,12 +53,6 @@ pub enum Refusal {
     OddModes,
 }
 
-#[derive(Clone, Copy)]
-pub enum Answer {
-    Done,
-    Refused(Refusal),
-}
-
 impl Refusal {
     pub fn number(self) -> u8
         ensures { result ≡ (paper self).number }
@@ -82,13 +80,35 @@ impl Refusal {
     }
 }
 
-impl Answer {
-    pub fn number(self) -> u8
-        ensures { result ≡ (answered self).number }
-    {
-        match self {
-            Answer::Done => 0,
-            Answer::Refused(why) => why.number(),
+// 0 for what is done, whatever came of it, and else the number of the refusal.
+pub fn number<T>(answer: &Result<T, Refusal>) -> u8
+    ensures { result ≡ (answered answer.now).number }
+{
+    match answer {
+        Ok(_) => 0,
+        Err(why) => why.number(),
+    }
+}
+
+// 0 or above 256.
+pub fn outside(k: usize) -> bool
+    ensures { result ≡ outside k }
+{
+    k == 0 || 256 < k
+}
+
+// A lent slice: how many of its elements are needed, and how many there are.
+#[derive(Clone, Copy)]
+pub struct Lent(pub usize, pub usize);
+
+// Whether one of several slices is shorter than what is needed of it.
+pub fn any_short(lent: &[Lent]) -> bool
+    ensures { result ≡ short (lengths lent.now) }
+{
+    for Lent(need, have) in lent {
+        if have < need {
+            return true;
         }
     }
+    false
 }

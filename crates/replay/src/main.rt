@@ -1,123 +1,86 @@
-// Replays a fixed list of cases and writes the library's answers. Standard input has a case a line, in hexadecimal numbers: the call, modes, qubits, and what the call
-// takes. A line of the answers has the number handed back and, if it is done, the values. The file `stdout` beside src/ has the answers of the Rust to the same
-// cases, so that the two are compared wherever this program is run (oracle/list made both files). For `multiply` they are those of a stand-in (oracle/README.md).
+// Replays a fixed list of cases and writes the library's answers. Standard input has a case a line, in hexadecimal
+// numbers: the call, modes, qubits, and what the call takes. A line of the answers has the number handed back and, if
+// it is done, the values. The file `stdout` beside src/ has the answers of the Rust to the same cases, so that the two
+// are compared wherever this program is run (oracle/list made both files). For `multiply` they are those of a stand-in
+// (oracle/README.md).
 //
-//   0 determine_vacuum_state, 1 new, 2 check_rows, 3 try_encode, 4 decode_zbasis_state, 5 apply_mode_enumeration, 6 product_real, 7 maxnto,
-//   8 from_name, 9 from_flatpack, a from_flatpack_naive, b multiply (two rows; modes is 1, and not looked at)
+//   0 determine_vacuum_state, 1 new, 2 check_rows, 3 try_encode, 4 decode_zbasis_state, 5 apply_mode_enumeration,
+//   6 product_real, 7 maxnto, 8 from_name, 9 from_flatpack, a from_flatpack_naive, b multiply (two rows; modes is 1,
+//   and not looked at)
 
 #![tactic(auto)]
 
-mod calls; // calls.rt: each call, and its answer written
+mod built; // built.rt: the calls that build rows, and their answers written
+mod rows; // rows.rt: buffers for rows, and how much of them a case takes
+mod sets; // sets.rt: the calls on a row set or on two rows, and their answers written
 mod text; // text.rt: numbers read and written
 
 ghost use Rattle.std.specs.Prelude.{◌≤◌, length, IfOk};
 
+use majorana::RowSet;
+use rows::{Rows, Size};
 use std::io;
 use std::io::Read;
+use text::Numbers;
 
-// A call on a row set whose parts are read, and where the case ends.
-fn on_set(
-    rt: &impl Print,
-    call: u64,
-    s: &[u8],
-    from: usize,
-    n: usize,
-    q: usize,
-    x: &[u64],
-    z: &[u64],
-    p: &[u8],
-) -> io::Result<usize> {
-    if call == 0 {
-        calls::solve(rt, n, q, x, z, p)?;
-        return Ok(from);
-    }
-    if call == 1 {
-        calls::new(rt, n, q, x, z, p)?;
-        return Ok(from);
-    }
-    if call == 6 {
-        return calls::product(rt, s, from, n, q, x, z, p);
-    }
-    let mut v = [0u64; 2];
-    let at = text::words_in(s, from, &mut v, 2);
-    if call == 2 {
-        calls::check(rt, n, q, x, z, p, &v)?;
-        return Ok(at);
-    }
-    if call == 5 {
-        return calls::enumerate(rt, s, at, n, q, x, z, p, &v);
-    }
-    let mut b = [0u64; 2];
-    let end = text::words_in(s, at, &mut b, 2);
-    if call == 3 {
-        calls::encode(rt, n, q, x, z, p, &v, &b)?;
-    } else {
-        calls::decode(rt, n, q, x, z, p, &v, &b)?;
-    }
-    Ok(end)
-}
+// The most cases that are read.
+const MOST: u64 = 65536;
 
 // The row set of a case, and the call on it.
-fn with_rows(
-    rt: &impl Print,
-    call: u64,
-    s: &[u8],
-    from: usize,
-    n: usize,
-    q: usize,
-) -> io::Result<usize> {
-    let mut x = [0u64; 512];
-    let mut z = [0u64; 512];
-    let mut p = [0u8; 256];
-    let k = calls::row_words(n, q);
-    let xs = text::words_in(s, from, &mut x, k);
-    let zs = text::words_in(s, xs, &mut z, k);
-    let ps = text::bytes_in(s, zs, &mut p, calls::row_count(n));
-    on_set(rt, call, s, ps, n, q, &x, &z, &p)
+fn on_rows(rt: &impl Print, call: u64, size: Size, numbers: &mut Numbers) -> io::Result<()> {
+    let mut rows = Rows::sevens();
+    numbers.fill(&mut rows.x[..size.words()], |k| k);
+    numbers.fill(&mut rows.z[..size.words()], |k| k);
+    numbers.fill(&mut rows.phases[..size.rows()], text::low_byte);
+    let set = rows.set(size);
+    match call {
+        0 => sets::solve(rt, set),
+        1 => sets::new(rt, set),
+        6 => sets::product(rt, set, numbers),
+        _ => on_vacuum(rt, call, set, numbers),
+    }
 }
 
-// One case; where it ends.
-fn one(rt: &impl Print, s: &[u8], from: usize) -> io::Result<usize> {
-    let call = text::number_in(s, from);
-    let n = text::number_in(s, call.next);
-    let q = text::number_in(s, n.next);
-    let modes = n.value as usize;
-    let qubits = q.value as usize;
-    if call.value < 7 {
-        return with_rows(rt, call.value, s, q.next, modes, qubits);
+// The vacuum of a case, and the call on the set and it.
+fn on_vacuum(rt: &impl Print, call: u64, set: RowSet, numbers: &mut Numbers) -> io::Result<()> {
+    let vacuum = numbers.two();
+    match call {
+        2 => sets::check(rt, set, &vacuum),
+        3 => sets::encode(rt, set, &vacuum, &numbers.two()),
+        5 => sets::enumerate(rt, set, &vacuum, numbers),
+        _ => sets::decode(rt, set, &vacuum, &numbers.two()),
     }
-    if call.value == 7 {
-        calls::maxnto(rt, modes)?;
-        return Ok(q.next);
-    }
-    if call.value == 8 {
-        let tree = text::number_in(s, q.next);
-        calls::named(rt, tree.value, modes, qubits)?;
-        return Ok(tree.next);
-    }
-    if call.value == 11 {
-        return calls::pair(rt, s, q.next, qubits);
-    }
-    calls::flatpack(rt, call.value == 9, s, q.next, modes, qubits)
 }
 
-// Every case of a text, of at most 65536; how many there are.
-fn replay(rt: &impl Print, s: &[u8]) -> io::Result<u64> {
-    let mut at = 0;
-    let mut cases = 0;
-    while cases < 65536 {
-        let from = text::skip(s, at);
-        if s.len() <= from {
+// One case, whose call is read.
+fn one(rt: &impl Print, call: u64, numbers: &mut Numbers) -> io::Result<()> {
+    let size = Size {
+        modes: numbers.number() as usize,
+        qubits: numbers.number() as usize,
+    };
+    match call {
+        0..=6 => on_rows(rt, call, size, numbers),
+        7 => built::maxnto(rt, size.modes),
+        8 => built::named(rt, numbers.number(), size),
+        11 => sets::multiply(rt, size.qubits, numbers),
+        _ => built::flatpack(rt, call == 9, size, numbers),
+    }
+}
+
+// Every case of a text; how many there are.
+fn replay(rt: &impl Print, text: &[u8]) -> io::Result<u64> {
+    let mut numbers = Numbers::of(text);
+    for cases in 0..MOST {
+        let Some(call) = numbers.next() else {
             return Ok(cases);
-        }
-        at = one(rt, s, from)?;
-        text::line_out(rt)?;
-        cases += 1;
+        };
+        one(rt, call, &mut numbers)?;
+        println!(rt)?;
     }
-    Ok(cases)
+    Ok(MOST)
 }
 
-// Reads until s is full or the input ends; how many bytes there are.
+// Reads until s is full or the input ends; how many bytes there are. std's read_exact refuses an input that is shorter.
 fn read_full(input: &mut impl Read, s: &mut [u8]) -> io::Result<usize>
     ensures { IfOk result (λ n. n ≤ length s.new) }
 {

@@ -17,7 +17,8 @@ use Rattle.trees.specs.Leaves.{named_slot, slot_of}
 use Rattle.flatpack_text.specs.Text.{parse, cut, is_digit, field_of, lines_of}
 use Rattle.flatpack_text.specs.Machine.{told, kept}
 use Rattle.flatpack_text.specs.Entries.{plain_at, filled_at}
-use Rattle.report.specs.declared.explain.Spot.TheVariants.{Line, X}
+use Rattle.std.specs.Prelude.{Option, Some, None}
+use Rattle.report.specs.declared.explain.Spot.TheVariants.{X}
 use Rattle.report.specs.declared.locate.Site.{Site}
 use Rattle.report.specs.Report.{digits_in, digits_of, row_number, refused_line, report}
 use Rattle.report.specs.Output.{verdict, answer_text, output}
@@ -66,7 +67,7 @@ refused-outputs = (refl, refl, refl, refl, refl)
 
 -- ---- where a refusal is found
 
-abbrev site : List ℕ → Site
+abbrev site : List ℕ → Option Site
 site text = located (told (parse text)) (kept text (replicate 1024 0))
 
 -- `0 0 - -` and `0 - - -`: the first X slot holds its own node, but the entries are refused by 3, before the slots are looked at
@@ -75,10 +76,10 @@ repeated = 48 ∷ 9 ∷ 48 ∷ 9 ∷ 45 ∷ 9 ∷ 45 ∷ 10 ∷ 48 ∷ 9 ∷ 45 
 
 -- the second use of a leaf, by line and slot; no slot for 3, nor for 13; the line that is not ended
 pub sites-found :
-    (site leaf_twice ≡ record { line = 2; spot = X })
+    (site leaf_twice ≡ Some (record { line = 2; spot = Some X }))
     × (output repeated ≡ refused_line 3)
-    × (site repeated ≡ record { line = 0; spot = Line })
-    × (site leaves_exchanged ≡ record { line = 0; spot = Line })
-    × (site not_ended ≡ record { line = 1; spot = Line })
+    × (site repeated ≡ None)
+    × (site leaves_exchanged ≡ None)
+    × (site not_ended ≡ Some (record { line = 1; spot = None }))
 unfolding output parse cut is_digit field_of lines_of answer_text verdict outside some_below all_below least_below first_pair twice_in first_fault fault_of leaf_fault child_of entry_in past leaf_numbered parent_in leaf_in scattered climb missing named_slot slot_of row_at letter above vacuum_rule empty paired d e commuting_pair clash dot common ones ones_in bit combo dependent report digits_of digits_in row_number kept located fault_at fault_place fault_slot unreadable plain_at filled_at reaches
 sites-found = (refl, refl, refl, refl, refl)

@@ -9,17 +9,15 @@ use lib.Dec.{eqb, ltb, leb}
 use lib.ListN.{length, get_or, take, drop, replicate}
 use lib.Seq.{take_all}
 use borrow.Author.Tests.{leb-true, ltb-true, ltb-false, le-leb, lt-ltb, le-ltb, ne_eqb}
-use Rattle.refusal.specs.declared.Answer.{Answer}
-use Rattle.refusal.specs.declared.Answer.TheVariants.{Done, Refused}
+use Rattle.std.specs.Prelude.{Option, Ok, Err}
 use Rattle.refusal.specs.declared.Refusal.{Refusal}
 use Rattle.refusal.specs.declared.Refusal.TheVariants.{Size, Short, Qubits, Child, SelfChild, SecondParent, SecondEntry, Roots, Leaf, Commuting, Dependent, NoVacuum, Vacuum, Undecodable, Unencodable, Malformed, Value, OddModes}
-use Rattle.refusal.specs.Numbers.{Paper, bare, paper, answered}
+use Rattle.refusal.specs.Numbers.{Paper, bare, paper, Answer, answered}
 use Rattle.refusal.specs.Search.{some_below}
 use Rattle.refusal.specs.Table.{Rule, ◌gives◌, first_of, if_zero}
 use Rattle.refusal.proofs.Bools.{or_left, or_right}
 use Rattle.algebra.specs.Rows.{Row}
 use Rattle.dense_block.specs.Words.{words_for, copied}
-use Rattle.trees.specs.declared.Slot as flat
 use Rattle.trees.specs.Trees.{Tree}
 use Rattle.trees.specs.Flatpacks.{Flatpack, past, flat_tree}
 use Rattle.trees.specs.Leaves.{rows}
@@ -32,7 +30,7 @@ use Rattle.flatpack_text.specs.Machine.{most, told, numbers_of, kept}
 use Rattle.report.specs.Report.{digits_of, refused, report, refused_line, wrote, written, roomy, report_length, reported}
 use Rattle.flatpack_text.specs.Entries.{used}
 use Rattle.report.specs.Output.{pack, tree, qubits, reaching, verdict, verdict_of, answer_text, output_of, output}
-use Rattle.report.specs.Replies.{input_of, said_length, said, Replied}
+use Rattle.report.specs.Replies.{input_of, said_length, said, told_line, Replied}
 use Rattle.report.proofs.Digits.{digits_word}
 use Rattle.report.proofs.LineLaws.{length_two}
 use Rattle.report.proofs.Packs.{plain, full, plain_long, full_long, table_at, qubit_number, qubit_same, slot_same}
@@ -72,8 +70,8 @@ number_low Value = leb-true _ _ refl
 number_low OddModes = leb-true _ _ refl
 
 answer_low : (r : Answer) → (answered r).number ≤ 18
-answer_low Done = leb-true 0 18 refl
-answer_low (Refused why) = number_low why
+answer_low (Ok tt) = leb-true 0 18 refl
+answer_low (Err why) = number_low why
 
 -- a text that is written whole
 abbrev pub Whole : List ℕ → List ℕ → ℕ → List ℕ → Type 0
@@ -129,12 +127,12 @@ module _ (es : List Entry) (d table : List ℕ) (few : length es ≤ 256) (room 
   pack_same : pack_of i ≡ pack es
   pack_same =
       let f : ◌≡◌ {A = ℕ → ℕ} (qubit_at entries) (pack es).qubit = fun_ext qubits_same in
-      let g : ◌≡◌ {A = ℕ → flat.Slot} (slot_at entries filled) (pack es).slot = fun_ext (slot_same es d table few room holds) in
+      let g : ◌≡◌ {A = ℕ → Option ℕ} (slot_at entries filled) (pack es).slot = fun_ext (slot_same es d table few room holds) in
       let start : pack_of i ≡ record { n = n; qubit = qubit_at entries; slot = slot_at entries filled } = refl in
       let next : ◌≡◌ {A = Flatpack} (record { n = n; qubit = qubit_at entries; slot = slot_at entries filled }) (record { n = n; qubit = (pack es).qubit; slot = slot_at entries filled }) = ap (λ (f : ℕ → ℕ). packed f (slot_at entries filled)) f in
       start ∙ next ∙ ap (packed (pack es).qubit) g
     where
-      packed : (ℕ → ℕ) → (ℕ → flat.Slot) → Flatpack
+      packed : (ℕ → ℕ) → (ℕ → Option ℕ) → Flatpack
       packed f g = record { n = n; qubit = f; slot = g }
 
   pub tree_same : tree_of i ≡ tree es
@@ -315,7 +313,7 @@ answer_verdict es d table room holds = go (ltb 256 (length es)) refl
 
 -- the reply's number is the text's, and its line the one that is told
 pub reply_numbered : (t d table out : List ℕ) {r : Reply} {after : List ℕ} → table ≡ kept t d → 1024 ≤ length d → Replied (told (parse t)) table out r after
-    → (answered r.answer ≡ verdict_of (parse t)) × (r.line ≡ (told (parse t)).line)
+    → (answered r.answer ≡ verdict_of (parse t)) × (r.line ≡ told_line (told (parse t)))
 unfolding parse kept
 reply_numbered t d table out {r} {after} holds room h = go ((lines_of (lines t).ended).all && is_empty (lines t).rest) h
   where
@@ -325,6 +323,6 @@ reply_numbered t d table out {r} {after} holds room h = go ((lines_of (lines t).
     parsed : Bool → Parsed
     parsed b = cond b (well_formed es) (malformed (suc (length es)))
 
-    go : (b : Bool) → Replied (told (parsed b)) table out r after → (answered r.answer ≡ verdict_of (parsed b)) × (r.line ≡ (told (parsed b)).line)
+    go : (b : Bool) → Replied (told (parsed b)) table out r after → (answered r.answer ≡ verdict_of (parsed b)) × (r.line ≡ told_line (told (parsed b)))
     go true h = (h.number ∙ answer_verdict es d table room holds, h.line)
     go false h = (h.number, h.line)

@@ -9,7 +9,7 @@ use lib.ListN.{length, get_or, set, replicate, length-replicate, get_or-eq_defau
 use lib.Seq.{get_or-set_same, get_or-set_other}
 use borrow.Author.Tests.{eqb-true, eqb-false, ltb-true, ltb-false, ne_eqb, eq-eqb}
 use Rattle.dense_block.specs.Words.{copied}
-use Rattle.trees.specs.declared.Slot.TheVariants.{Blank, Number}
+use Rattle.std.specs.Prelude.{Some, None}
 use Rattle.tree_sizes.specs.Sizes.{qubit_at}
 use Rattle.ternarytree.specs.Building.{slot_at}
 use Rattle.flatpack_text.specs.Text.{Slot, empty, numbered, Entry}
@@ -110,14 +110,14 @@ module _ (es : List Entry) (d table : List ℕ) (few : length es ≤ 256) (room 
       a : ℕ
       a = 4 * (k / 3) + k % 3 + 1
 
-      by_slot : (s : Slot) {v : ℕ} → v ≡ slot_number s → cond (not (eqb v 0)) (Number (v - 1)) Blank ≡ flat_slot s
+      by_slot : (s : Slot) {v : ℕ} → v ≡ slot_number s → cond (not (eqb v 0)) (Some (v - 1)) None ≡ flat_slot s
       by_slot empty h = rw h
       by_slot (numbered n) h =
           let z : n + 1 ≡ 0 → ⊥ = λ e. omega arith in
           let m : n + 1 - 1 ≡ n = omega arith in
           rw (h, ne_eqb (n + 1) 0 z, m)
 
-      none_left : (l : ℕ) → flat_slot (slot_in blank_entry l) ≡ Blank
+      none_left : (l : ℕ) → flat_slot (slot_in blank_entry l) ≡ None
       none_left zero = refl
       none_left (suc zero) = refl
       none_left (suc (suc l)) = refl

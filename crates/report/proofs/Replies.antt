@@ -5,11 +5,10 @@ use mathlib.Core.Path.{◌≡◌, refl, sym, ap, ◌∙◌, subst}
 use mathlib.Core.List.{List, [], ◌∷◌}
 use mathlib.Core.Bool.{Bool, true, false}
 use lib.ListN.{replicate}
-use Rattle.refusal.specs.declared.Answer.{Answer}
-use Rattle.refusal.specs.declared.Answer.TheVariants.{Done, Refused}
+use Rattle.std.specs.Prelude.{Some, None, Result, Ok, Err}
 use Rattle.refusal.specs.declared.Refusal.{Refusal}
 use Rattle.refusal.specs.declared.Refusal.TheVariants.{Malformed as NotWell}
-use Rattle.refusal.specs.Numbers.{Paper, paper, answered}
+use Rattle.refusal.specs.Numbers.{Paper, paper, Answer, answered}
 use Rattle.refusal.specs.Table.{if_zero}
 use Rattle.refusal.proofs.Outcome.{refused_number}
 use Rattle.algebra.specs.Rows.{Row}
@@ -21,8 +20,7 @@ use Rattle.ternarytree.proofs.Theorems.{flatpack_stored}
 use Rattle.report.specs.Report.{row_in, row_lines, report, refused_line, wrote, written, report_length, reported}
 use Rattle.flatpack_text.specs.Entries.{placed, plain_at, filled_at, used}
 use Rattle.flatpack_text.specs.declared.read.State.{State}
-use Rattle.flatpack_text.specs.declared.read.Text.{Text}
-use Rattle.flatpack_text.specs.declared.read.Text.TheVariants.{Entries, Malformed}
+use Rattle.flatpack_text.specs.declared.read.Malformed.{Malformed}
 use Rattle.report.specs.declared.reply.Reply.{Reply}
 use Rattle.flatpack_text.specs.Machine.{Told, text_paper}
 use Rattle.flatpack_text.specs.Moves.{finished}
@@ -36,11 +34,11 @@ not_zero zero new old h = absurd (h refl)
 not_zero (suc k) new old h = refl
 
 module _ {a : Answer} (n q : ℕ) (row : ℕ → Row) (v : ℕ) (out : List ℕ) {r : ℕ} {e : List ℕ} where
-  pub tells_report : a ≡ Done → r ≡ report_length n q row v out → e ≡ reported n q row v out
+  pub tells_report : a ≡ Ok tt → r ≡ report_length n q row v out → e ≡ reported n q row v out
       → record { count : r ≡ said_length (answered a) n q row v out; bytes : e ≡ said (answered a) n q row v out }
   tells_report h p s = rw h (record { count = p; bytes = s })
 
-  pub tells_refusal : (why : Refusal) {k : ℕ} → a ≡ Refused why → k ≡ (paper why).number → r ≡ wrote (refused_line k) out → e ≡ written (refused_line k) out
+  pub tells_refusal : (why : Refusal) {k : ℕ} → a ≡ Err why → k ≡ (paper why).number → r ≡ wrote (refused_line k) out → e ≡ written (refused_line k) out
       → record { count : r ≡ said_length (answered a) n q row v out; bytes : e ≡ said (answered a) n q row v out }
   tells_refusal why {k} h c p s =
       rw h (record {
@@ -69,9 +67,9 @@ value_zero (suc n) (u ∷ ws) h = let z : value (zeroed n ws) ≡ 0 = value_zero
 on_done_lem : {A : Type 0} (p : Paper) (new zeros old : A) {e : A} → p.number ≡ 0 → e ≡ settled p new zeros old → e ≡ new
 on_done_lem p new zeros old h s = s ∙ rw h
 
-done_of : (r : Answer) → (answered r).number ≡ 0 → r ≡ Done
-done_of Done h = refl
-done_of (Refused why) h = absurd (refused_number why h)
+done_of : (r : Answer) → (answered r).number ≡ 0 → r ≡ Ok tt
+done_of (Ok tt) h = refl
+done_of (Err why) h = absurd (refused_number why h)
 
 -- built, from outputs whose vacuum is zero
 module _ (i : Input) (clear : value i.out.vs ≡ 0) {r : Answer} {xs zs ps vs room : List ℕ} (b : FlatBuilt i r xs zs ps vs room) where
@@ -118,7 +116,7 @@ pub builds : (n : ℕ) (table out : List ℕ) {q len : ℕ} {es : List ℕ} {fs 
     → FlatBuilt (given true n q es fs (replicate 2048 0) (replicate 2048 0) (replicate 512 0) (replicate 4 0) (replicate 4096 0)) r xs zs ps vs room
     → len ≡ said_length (answered r) n q (row_in q xs zs ps) (value vs) out
     → after ≡ said (answered r) n q (row_in q xs zs ps) (value vs) out
-    → Builds n table out (record { answer = r; line = 0; length = len }) after
+    → Builds n table out (record { answer = r; line = None; length = len }) after
 unfolding input_of
 builds n table out {q} {len} {es} {fs} {r} {xs} {zs} {ps} {vs} {room} {after} hq he hf b l s =
     let i = input_of n table in
@@ -134,14 +132,14 @@ builds n table out {q} {len} {es} {fs} {r} {xs} {zs} {ps} {vs} {room} {after} hq
 
 -- ---- the reply to a text
 
-module _ (s : State) (table out : List ℕ) {a : Text} {after : List ℕ} (f : Finishes s a) where
-  pub replies_entries : (n : ℕ) {r : Reply} → a ≡ Entries n → Builds n table out r after → Replied (finished s) table out r after
+module _ (s : State) (table out : List ℕ) {a : Result ℕ Malformed} {after : List ℕ} (f : Finishes s a) where
+  pub replies_entries : (n : ℕ) {r : Reply} → a ≡ Ok n → Builds n table out r after → Replied (finished s) table out r after
   replies_entries n {r} h b =
       subst (λ (t : Told). Replied t table out r after) (ap text_paper (sym h) ∙ f.answer)
       (record { number = b.told_number; line = b.told_line; length = b.told_length; bytes = b.told_bytes })
 
-  pub replies_malformed : (line : ℕ) {k : ℕ} → a ≡ Malformed line → k ≡ wrote (refused_line 16) out → after ≡ written (refused_line 16) out
-      → Replied (finished s) table out (record { answer = Refused NotWell; line = line; length = k }) after
-  replies_malformed line {k} h p q =
-      subst (λ (t : Told). Replied t table out (record { answer = Refused NotWell; line = line; length = k }) after) (ap text_paper (sym h) ∙ f.answer)
-      (record { number = refl; line = refl; length = p; bytes = q })
+  pub replies_malformed : (fault : Malformed) {v k : ℕ} → a ≡ Err fault → v ≡ 16 → k ≡ wrote (refused_line v) out → after ≡ written (refused_line v) out
+      → Replied (finished s) table out (record { answer = Err NotWell; line = Some fault.line; length = k }) after
+  replies_malformed fault {v} {k} h c p q =
+      subst (λ (t : Told). Replied t table out (record { answer = Err NotWell; line = Some fault.line; length = k }) after) (ap text_paper (sym h) ∙ f.answer)
+      (record { number = refl; line = refl; length = rw c at p; bytes = rw c at q })

@@ -11,6 +11,7 @@ use lib.Dec.{eqb, ltb, leb}
 use lib.ListN.{length, take}
 use lib.Seq.{take_all}
 use borrow.Author.Tests.{ltb-true, ltb-false, lt-ltb, le-ltb, leb-false, lt-leb, ne_eqb}
+use Rattle.std.specs.Prelude.{Option, None}
 use Rattle.refusal.specs.Numbers.{Paper}
 use Rattle.refusal.specs.Search.{Least, found, none, least_below}
 use Rattle.refusal.specs.Table.{◌gives◌, first_of, ◌of◌, short}
@@ -221,8 +222,8 @@ site_of t d table holds room = go ((lines_of (lines t).ended).all && is_empty (l
     go true = entries_site es d table room holds
     go false = bad_line
 
--- a site of line 0
-pub unnamed : {p : Parsed} {a : Site} {es : List Entry} → SiteOf p a → p ≡ well_formed es → a.line ≡ 0 → (k : ℕ) → RefusedFor es k → ⊥
-unnamed {es = es} bad_line e z = let f : ◌≡◌ {A = ℕ} 0 1 = cc in absurd (omega arith)
-unnamed {es = es} (bad_slot {k = k} r) e z = absurd (omega arith)
+-- no site
+pub unnamed : {p : Parsed} {a : Option Site} {es : List Entry} → SiteOf p a → p ≡ well_formed es → a ≡ None → (k : ℕ) → RefusedFor es k → ⊥
+unnamed {es = es} bad_line e z = absurd (cc)
+unnamed {es = es} (bad_slot {k = k} r) e z = absurd (cc)
 unnamed {es = es} (no_slot {es = fs} h) e z = let same : fs ≡ es = cc in rw same at h

@@ -2,7 +2,7 @@
 --
 -- In plain words: the reply to a text that was fed, in chunks of any number and any lengths, is its output, byte for byte (specs/Output.antt): the report of its tree, or the
 -- number of the first refusal: `text_answered`. The number in the reply is that of the definition, 16 if the text is not well formed and else the verdict on its entries, and its
--- line is the first that is no entry, 0 if every line is one: `text_numbered`. What `locate` names is that line, or the slot for which the entries are refused: the first slot of the
+-- line is the first that is no entry, None if every line is one: `text_numbered`. What `locate` names is that line, or the slot for which the entries are refused: the first slot of the
 -- text's tree that has a fault, with the number refused as its fault (specs/Located.antt). It names no slot for any other refusal, and none that is not at fault: `text_located`.
 -- Where it names neither, the entries are refused by 1, or a qubit has two entries, or no slot is at fault: `text_unlocated`. No input leaves `respond` two outcomes: `respond_outcome`.
 -- Below, a call is its contract: `FedInTurn` has a call of `feed` for each chunk, `Replied` and `located` of specs/Replies.antt are `respond` and `locate`.
@@ -12,6 +12,7 @@ use mathlib.Core.Logic.{◌⊎◌}
 use mathlib.Core.Bool.{true}
 use mathlib.Core.List.{List, [], ◌++◌}
 use lib.ListN.{length, drop}
+use Rattle.std.specs.Prelude.{None}
 use Rattle.refusal.specs.Numbers.{answered}
 use Rattle.refusal.proofs.Outcome.{one_outcome, answered_injective}
 use Rattle.trees.specs.Trees.{twice, fault}
@@ -24,7 +25,7 @@ use Rattle.flatpack_text.proofs.Reading.{start_kept, finished_after}
 use Rattle.flatpack_text.proofs.Theorems.{joined, FedInTurn, fed_on}
 use Rattle.report.specs.Output.{tree, verdict, verdict_of, output}
 use Rattle.report.specs.Located.{SiteOf}
-use Rattle.report.specs.Replies.{Replied, located}
+use Rattle.report.specs.Replies.{told_line, Replied, located}
 use Rattle.report.proofs.Outputs.{reply_whole, reply_numbered}
 use Rattle.report.proofs.Sites.{site_of, slotless, unnamed}
 
@@ -51,7 +52,7 @@ module _ {us : List (List ℕ)} {s r : State} {d e : List ℕ} (begin : s ≡ af
 
   -- its number and line
   pub text_numbered : {out : List ℕ} {a : Reply} {f : List ℕ} → Replied (finished r) e out a f
-      → (answered a.answer ≡ verdict_of (parse (joined us))) × (a.line ≡ (told (parse (joined us))).line)
+      → (answered a.answer ≡ verdict_of (parse (joined us))) × (a.line ≡ told_line (told (parse (joined us))))
   text_numbered {out} {a} {f} reply = reply_numbered (joined us) d e out read_as.1 room (subst (λ (t : Told). Replied t e out a f) read_as.0 reply)
 
   -- the line or slot that is named
@@ -59,6 +60,6 @@ module _ {us : List (List ℕ)} {s r : State} {d e : List ℕ} (begin : s ≡ af
   text_located = subst (λ (t : Told). SiteOf (parse (joined us)) (located t e)) (sym read_as.0) (site_of (joined us) d e read_as.1 room)
 
   -- where no line and no slot is
-  pub text_unlocated : (es : List Entry) → parse (joined us) ≡ well_formed es → (located (finished r) e).line ≡ 0
+  pub text_unlocated : (es : List Entry) → parse (joined us) ≡ well_formed es → located (finished r) e ≡ None
       → ((verdict es).number ≡ 1) ⊎ ((twice (tree es) ≡ true) ⊎ ((k : ℕ) → k < 3 * length es → fault (tree es) k ≡ 0))
   text_unlocated es parsed none = slotless es (unnamed text_located parsed none)

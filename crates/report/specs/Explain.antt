@@ -1,10 +1,11 @@
 -- What a refusal means, as one sentence in plain words, with the line and the slot where it was found if they are known.
-use Rattle.std.specs.Prelude.{ℕ, zero, suc, List, [], ◌∷◌, ◌++◌, cond, leb, length, drop}
+use Rattle.std.specs.Prelude.{ℕ, List, [], ◌∷◌, ◌++◌, cond, Option, Some, None, leb, length, drop}
 use Rattle.refusal.specs.declared.Refusal.{Refusal}
 use Rattle.refusal.specs.declared.Refusal.TheVariants.{Size, Short, Qubits, Child, SelfChild, SecondParent, SecondEntry, Roots, Leaf, Commuting, Dependent, NoVacuum, Vacuum, Undecodable, Unencodable, Malformed, Value, OddModes}
 use Rattle.refusal.specs.Numbers.{paper}
 use Rattle.report.specs.declared.explain.Spot.{Spot}
-use Rattle.report.specs.declared.explain.Spot.TheVariants.{Line, X, Y, Z}
+use Rattle.report.specs.declared.explain.Spot.TheVariants.{X, Y, Z}
+use Rattle.report.specs.declared.locate.Site.{Site}
 use Rattle.report.specs.Report.{digits_of}
 
 -- ---- words, as bytes: the text of each list stands above it
@@ -18,11 +19,11 @@ abbrev pub at_line : List ℕ
 at_line = 32 ∷ 97 ∷ 116 ∷ 32 ∷ 108 ∷ 105 ∷ 110 ∷ 101 ∷ []
 
 -- nothing, ` slot X.`, ` slot Y.`, ` slot Z.`
-abbrev pub spot_words : Spot → List ℕ
-spot_words Line = []
-spot_words X = 32 ∷ 115 ∷ 108 ∷ 111 ∷ 116 ∷ 32 ∷ 88 ∷ 46 ∷ []
-spot_words Y = 32 ∷ 115 ∷ 108 ∷ 111 ∷ 116 ∷ 32 ∷ 89 ∷ 46 ∷ []
-spot_words Z = 32 ∷ 115 ∷ 108 ∷ 111 ∷ 116 ∷ 32 ∷ 90 ∷ 46 ∷ []
+abbrev pub spot_words : Option Spot → List ℕ
+spot_words None = []
+spot_words (Some X) = 32 ∷ 115 ∷ 108 ∷ 111 ∷ 116 ∷ 32 ∷ 88 ∷ 46 ∷ []
+spot_words (Some Y) = 32 ∷ 115 ∷ 108 ∷ 111 ∷ 116 ∷ 32 ∷ 89 ∷ 46 ∷ []
+spot_words (Some Z) = 32 ∷ 115 ∷ 108 ∷ 111 ∷ 116 ∷ 32 ∷ 90 ∷ 46 ∷ []
 
 -- what each refusal means
 unfoldable pub phrase : Refusal → List ℕ
@@ -70,28 +71,26 @@ abbrev pub piece : List ℕ → ℕ → List ℕ
 piece f end = f ++ (end ∷ [])
 
 -- a full stop if nothing follows, and else a comma
-abbrev pub line_mark : ℕ → ℕ
-line_mark zero = 46
-line_mark (suc k) = 44
+abbrev pub line_mark : Option Site → ℕ
+line_mark None = 46
+line_mark (Some site) = 44
 
-abbrev pub spot_mark : Spot → ℕ
-spot_mark Line = 46
-spot_mark X = 44
-spot_mark Y = 44
-spot_mark Z = 44
+abbrev pub spot_mark : Option Spot → ℕ
+spot_mark None = 46
+spot_mark (Some spot) = 44
 
--- `at line 3.`, or `at line 3, slot X.`, after a blank, and a line feed; the line feed alone if the line is not known and given as 0
-abbrev pub place : ℕ → Spot → List ℕ
-place zero spot = 10 ∷ []
-place (suc k) spot = piece at_line 32 ++ (piece (digits_of (suc k)) (spot_mark spot) ++ piece (spot_words spot) 10)
+-- `at line 3.`, or `at line 3, slot X.`, after a blank, and a line feed; the line feed alone if it is not known where
+abbrev pub place : Option Site → List ℕ
+place None = 10 ∷ []
+place (Some site) = piece at_line 32 ++ (piece (digits_of site.line) (spot_mark site.spot) ++ piece (spot_words site.spot) 10)
 
 -- `rowreport: refused 9: leaf out of range, used twice or missing, at line 3, slot X.`
-unfoldable pub sentence : Refusal → ℕ → Spot → List ℕ
-sentence why line spot = piece opening 32 ++ (piece (digits_of (paper why).number) 58 ++ (piece (phrase why) (line_mark line) ++ place line spot))
+unfoldable pub sentence : Refusal → Option Site → List ℕ
+sentence why site = piece opening 32 ++ (piece (digits_of (paper why).number) 58 ++ (piece (phrase why) (line_mark site) ++ place site))
 
 -- how many bytes are written, and the buffer at exit: the sentence at its front if it has at least 256 bytes, and else nothing
-unfoldable pub explained_length : Refusal → ℕ → Spot → List ℕ → ℕ
-explained_length why line spot out = cond (leb 256 (length out)) (length (sentence why line spot)) 0
+unfoldable pub explained_length : Refusal → Option Site → List ℕ → ℕ
+explained_length why site out = cond (leb 256 (length out)) (length (sentence why site)) 0
 
-unfoldable pub explained : Refusal → ℕ → Spot → List ℕ → List ℕ
-explained why line spot out = cond (leb 256 (length out)) (sentence why line spot ++ drop (length (sentence why line spot)) out) out
+unfoldable pub explained : Refusal → Option Site → List ℕ → List ℕ
+explained why site out = cond (leb 256 (length out)) (sentence why site ++ drop (length (sentence why site)) out) out

@@ -1,9 +1,9 @@
 -- Where in a text a refusal was found: the line that is no entry, or the slot for which its entries are refused.
-use Rattle.std.specs.Prelude.{ℕ, zero, suc, ◌+◌, ◌/◌, ◌%◌, min, ◌≡◌, List}
+use Rattle.std.specs.Prelude.{ℕ, zero, suc, ◌+◌, ◌/◌, ◌%◌, min, ◌≡◌, List, Option, Some, None}
 use Rattle.refusal.specs.Search.{Least, found, none}
 use Rattle.trees.specs.Trees.{fault, FirstAtFault}
 use Rattle.report.specs.declared.explain.Spot.{Spot}
-use Rattle.report.specs.declared.explain.Spot.TheVariants.{Line, X, Y, Z}
+use Rattle.report.specs.declared.explain.Spot.TheVariants.{X, Y, Z}
 use Rattle.report.specs.declared.locate.Site.{Site}
 use Rattle.flatpack_text.specs.Text.{Entry, Parsed, well_formed, malformed}
 use Rattle.flatpack_text.specs.Machine.{most}
@@ -16,17 +16,17 @@ spot_of (suc zero) = Y
 spot_of (suc (suc l)) = Z
 
 -- slot k is one of entry k / 3, and entries stand one on a line, from line 1
-abbrev pub located_at : Least → Site
-located_at (found k) = record { line = k / 3 + 1; spot = spot_of (k % 3) }
-located_at none = record { line = 0; spot = Line }
+abbrev pub located_at : Least → Option Site
+located_at (found k) = Some (record { line = k / 3 + 1; spot = Some (spot_of (k % 3)) })
+located_at none = None
 
 -- the entries are refused for slot k: it is the first that has a fault, and its fault is the number refused
 pub record RefusedFor (es : List Entry) (k : ℕ) : Type 0 where
   pub first : FirstAtFault (tree es) k
   pub number : fault (tree es) k ≡ (verdict es).number
 
--- the site of a text: the line that is no entry, counted as far as counts go; the slot for which its entries are refused; line 0 if they are refused for no slot
-pub data SiteOf : Parsed → Site → Type 0 where
-  bad_line : {k : ℕ} → SiteOf (malformed k) (record { line = min k most; spot = Line })
+-- the site of a text: the line that is no entry, counted as far as counts go; the slot for which its entries are refused; None if they are refused for no slot
+pub data SiteOf : Parsed → Option Site → Type 0 where
+  bad_line : {k : ℕ} → SiteOf (malformed k) (Some (record { line = min k most; spot = None }))
   bad_slot : {es : List Entry} {k : ℕ} → RefusedFor es k → SiteOf (well_formed es) (located_at (found k))
   no_slot : {es : List Entry} → ((k : ℕ) → RefusedFor es k → ⊥) → SiteOf (well_formed es) (located_at none)

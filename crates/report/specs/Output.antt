@@ -1,11 +1,9 @@
 -- What `rowreport` writes for a text: the report of its tree, or the number of the first refusal.
-use Rattle.std.specs.Prelude.{ℕ, zero, suc, ◌/◌, ◌%◌, List, ◌∷◌, Bool, true, ◌||◌, leb, ltb, length, get_or}
+use Rattle.std.specs.Prelude.{ℕ, zero, suc, ◌/◌, ◌%◌, List, ◌∷◌, Bool, true, ◌||◌, Option, Some, None, leb, ltb, length, get_or}
 use Rattle.refusal.specs.Numbers.{Paper, bare}
 use Rattle.refusal.specs.Search.{some_below}
 use Rattle.refusal.specs.Table.{◌gives◌, first_of, if_zero}
 use Rattle.trees.specs.Trees.{Tree}
-use Rattle.trees.specs.declared.Slot as flat
-use Rattle.trees.specs.declared.Slot.TheVariants.{Blank, Number}
 use Rattle.trees.specs.Flatpacks.{Flatpack, past, flat_tree}
 use Rattle.trees.specs.Leaves.{rows}
 use Rattle.tree_sizes.specs.Sizes.{outside}
@@ -28,9 +26,9 @@ slot_in e zero = e.x
 slot_in e (suc zero) = e.y
 slot_in e (suc (suc l)) = e.z
 
-abbrev pub flat_slot : Slot → flat.Slot
-flat_slot empty = Blank
-flat_slot (numbered n) = Number n
+abbrev pub flat_slot : Slot → Option ℕ
+flat_slot empty = None
+flat_slot (numbered n) = Some n
 
 abbrev pub pack : List Entry → Flatpack
 pack es = record { n = length es; qubit = λ i. (entry_at es i).qubit; slot = λ k. flat_slot (slot_in (entry_at es (k / 3)) (k % 3)) }

@@ -2,6 +2,7 @@
 use Rattle.std.specs.Prelude.{ℕ, zero, suc, ◌+◌, ◌*◌, ◌/◌, ◌%◌, List, [], ◌∷◌, ◌++◌, Bool, true, false, cond, ◌&&◌, eqb, ltb, leb, length, get_or, drop}
 use Rattle.algebra.specs.Rows.{Row, bit}
 use Rattle.dense_block.specs.Words.{value, words_for, term_of}
+use Rattle.report.specs.declared.write.Rows.{Rows}
 
 -- ---- numbers
 
@@ -106,6 +107,10 @@ written line out = cond (leb (length line) (length out)) (line ++ drop (length l
 -- row k of a set that is lent: its phase, and its words of the X and Z parts
 abbrev pub row_in : ℕ → List ℕ → List ℕ → List ℕ → ℕ → Row
 row_in q xs zs ps k = row_of (get_or ps k 0) (term_of (words_for q) xs k) (term_of (words_for q) zs k)
+
+-- the same of rows that are lent as one
+abbrev pub rows_in : Rows → ℕ → Row
+rows_in r = row_in r.qubits r.x.now r.z.now r.phases.now
 
 -- at most 256 modes and 256 qubits, and room for 2n + 2 lines of at most q + 64 bytes
 unfoldable pub roomy : ℕ → ℕ → ℕ → Bool

@@ -4,63 +4,59 @@ ghost use Rattle.std.specs.Prelude.{◌≡◌, ◌+◌, ◌≤◌, ◌<◌, leng
 ghost use Rattle.std.proofs.lemmas.List.Edits.{sets};
 ghost use Rattle.report.specs.Explain.{piece, phrase, line_mark, spot_mark, spot_words, place, explained_length, explained};
 
+use crate::locate::Site;
 use crate::pieces::{put_number, put_word};
 use refusal::Refusal;
 
-// What of a line is at fault: the line, or its X, Y or Z slot.
-#[derive(Clone, Copy)]
+// A slot of a line.
+#[derive(Clone, Copy, Debug, PartialEq, Eq)]
 pub enum Spot {
-    Line,
     X,
     Y,
     Z,
 }
 
 // A full stop if no line is named after it, and else a comma.
-fn line_mark(line: usize) -> u8
-    ensures { result ≡ line_mark line }
+fn line_mark(site: Option<Site>) -> u8
+    ensures { result ≡ line_mark site }
 {
-    if line == 0 { b'.' } else { b',' }
+    if site.is_some() { b',' } else { b'.' }
 }
 
 // The same of a slot.
-fn spot_mark(spot: Spot) -> u8
+fn spot_mark(spot: Option<Spot>) -> u8
     ensures { result ≡ spot_mark spot }
 {
-    match spot {
-        Spot::Line => b'.',
-        Spot::X => b',',
-        Spot::Y => b',',
-        Spot::Z => b',',
-    }
+    if spot.is_some() { b',' } else { b'.' }
 }
 
 // The slot and a line feed.
-fn put_spot(out: &mut [u8], at: usize, spot: Spot) -> usize
+fn put_spot(out: &mut [u8], at: usize, spot: Option<Spot>) -> usize
     requires { at + 8 < length out.old }
     ensures spot { result ≡ at + length (piece (spot_words spot) 10) }
     ensures bytes { out.new ≡ sets out.old at (piece (spot_words spot) 10) }
 {
     match spot {
-        Spot::Line => put_word(out, at, b"", 10),
-        Spot::X => put_word(out, at, b" slot X.", 10),
-        Spot::Y => put_word(out, at, b" slot Y.", 10),
-        Spot::Z => put_word(out, at, b" slot Z.", 10),
+        None => put_word(out, at, b"", b'\n'),
+        Some(Spot::X) => put_word(out, at, b" slot X.", b'\n'),
+        Some(Spot::Y) => put_word(out, at, b" slot Y.", b'\n'),
+        Some(Spot::Z) => put_word(out, at, b" slot Z.", b'\n'),
     }
 }
 
-// The line and the slot, and a line feed.
-fn put_place(out: &mut [u8], at: usize, line: usize, spot: Spot) -> usize
+// The line and the slot, if they are known, and a line feed.
+fn put_place(out: &mut [u8], at: usize, site: Option<Site>) -> usize
     requires { at + 64 ≤ length out.old }
-    ensures spot { result ≡ at + length (place line spot) }
-    ensures bytes { out.new ≡ sets out.old at (place line spot) }
+    ensures spot { result ≡ at + length (place site) }
+    ensures bytes { out.new ≡ sets out.old at (place site) }
+    ensures short { length (place site) ≤ 40 }
 {
-    if line == 0 {
-        return put_word(out, at, b"", 10);
-    }
-    let a = put_word(out, at, b" at line", 32);
-    let b = put_number(out, a, line, spot_mark(spot));
-    put_spot(out, b, spot)
+    let Some(site) = site else {
+        return put_word(out, at, b"", b'\n');
+    };
+    let a = put_word(out, at, b" at line", b' ');
+    let b = put_number(out, a, site.line, spot_mark(site.spot));
+    put_spot(out, b, site.spot)
 }
 
 // What the refusal means, and the byte that ends it.
@@ -92,17 +88,18 @@ fn put_phrase(out: &mut [u8], at: usize, why: Refusal, end: u8) -> usize
     }
 }
 
-// The sentence for a refusal that was found in a slot of a line, or in the line; line 0 if it is not known where. It is written to the front of a buffer of at least 256
-// bytes, and its length handed back; in a smaller one nothing is written and 0 is handed back.
-pub fn explain(why: Refusal, line: usize, spot: Spot, out: &mut [u8]) -> usize
-    ensures count { result ≡ explained_length why line spot out.old }
-    ensures bytes { out.new ≡ explained why line spot out.old }
+// The sentence for a refusal, with the line and the slot where it was found if that is known. It is written to the
+// front of a buffer of at least 256 bytes, and its length handed back; in a smaller one nothing is written and 0 is
+// handed back.
+pub fn explain(why: Refusal, site: Option<Site>, out: &mut [u8]) -> usize
+    ensures count { result ≡ explained_length why site out.old }
+    ensures bytes { out.new ≡ explained why site out.old }
 {
     if out.len() < 256 {
         return 0;
     }
-    let a = put_word(out, 0, b"rowreport: refused", 32);
-    let b = put_number(out, a, why.number() as usize, 58);
-    let c = put_phrase(out, b, why, line_mark(line));
-    put_place(out, c, line, spot)
+    let a = put_word(out, 0, b"rowreport: refused", b' ');
+    let b = put_number(out, a, why.number() as usize, b':');
+    let c = put_phrase(out, b, why, line_mark(site));
+    put_place(out, c, site)
 }

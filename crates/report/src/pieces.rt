@@ -1,4 +1,6 @@
-// Pieces of a line: numbers and words, each with the byte that ends it, from a place of a buffer on.
+// Pieces of a line: numbers and words, each with the byte that ends it, from a place of a buffer on. The place is a
+// number and the buffer a slice: a cursor that holds the slice would make each contract speak of a borrow. Digits by
+// hand: std has no `fmt::Write` or `io::Write` over a lent slice.
 
 ghost use Rattle.std.specs.Prelude.{◌≡◌, [], ◌∷◌, ◌++◌, ◌+◌, ◌<◌, length};
 ghost use Rattle.std.proofs.lemmas.List.Edits.{sets};
@@ -8,10 +10,7 @@ ghost use Rattle.report.specs.Report.{digits_of};
 pub fn digits(n: usize) -> usize
     ensures { result ≡ length (digits_of n) }
 {
-    if n < 10 {
-        return 1;
-    }
-    digits(n / 10) + 1
+    if n < 10 { 1 } else { digits(n / 10) + 1 }
 }
 
 // The digits of a number at a place of the buffer; the place after them.
@@ -21,11 +20,11 @@ pub fn put_digits(out: &mut [u8], at: usize, n: usize) -> usize
     ensures bytes { out.new ≡ sets out.old at (digits_of n) }
 {
     if n < 10 {
-        out[at] = 48 + (n as u8);
+        out[at] = b'0' + (n as u8);
         return at + 1;
     }
     let e = put_digits(out, at, n / 10);
-    out[e] = 48 + ((n % 10) as u8);
+    out[e] = b'0' + ((n % 10) as u8);
     e + 1
 }
 
@@ -46,11 +45,10 @@ pub fn put_word(out: &mut [u8], at: usize, word: &[u8], end: u8) -> usize
     ensures place { result ≡ at + length (word.now ++ (end ∷ [])) }
     ensures bytes { out.new ≡ sets out.old at (word.now ++ (end ∷ [])) }
 {
-    let mut i = 0;
-    while i < word.len() {
+    for i in 0..word.len() {
         out[at + i] = word[i];
-        i += 1;
     }
-    out[at + i] = end;
-    at + i + 1
+    let last = at + word.len();
+    out[last] = end;
+    last + 1
 }

@@ -1,15 +1,14 @@
 -- Chunks taken one after another: what a turn of the loop adds to those before it.
 use Prim.Native.Nat.{ℕ, ◌+◌, ◌<◌}
 use native.Mathlib.Numerals.{add-one}
-use mathlib.Core.Path.{◌≡◌, sym, subst}
+use mathlib.Core.Path.{◌≡◌, sym, ap, subst, ◌∙◌}
 use mathlib.Core.List.{List, [], ◌++◌}
 use lib.ListN.{length}
+use Rattle.std.specs.Prelude.{Option, Some, Result, Ok}
 use Rattle.flatpack_text.specs.declared.read.State.{State}
 use Rattle.flatpack_text.specs.Calls.{Feeds}
 use Rattle.rowreport_core.specs.declared.Reading.{Reading}
 use Rattle.rowreport_core.specs.Program.{begun, Takes, none, more}
-use Rattle.rowreport.specs.declared.Step.{Step}
-use Rattle.rowreport.specs.declared.Step.TheVariants.{More}
 use Rattle.rowreport.specs.Reads.{Turned}
 
 -- a chunk that was taken
@@ -23,7 +22,7 @@ Counted k r = (text : List ℕ) × Takes begun text k r
 pub none_yet : {r : Reading} → r ≡ begun → Counted 0 r
 none_yet e = subst (Counted 0) (sym e) ([], none)
 
-pub one_more : {k : ℕ} {r t : Reading} {s : Step} → Counted k r → Turned r s t → s ≡ More → Counted (k + 1) t
-one_more {k} {r} {t} (text, run) h e =
-    let (u, full, feeds) = subst (λ (s : Step). Turned r s t) e h in
+pub one_more : {E : Type 0} {k : ℕ} {r t : Reading} {o : Option Reading} {s : Result (Option Reading) E} → Counted k r → Turned r s → s ≡ Ok o → o ≡ Some t → Counted (k + 1) t
+one_more {E} {k} {r} {t} (text, run) h e f =
+    let (u, full, feeds) = subst (Turned {E = E} r) (e ∙ ap (λ (o : Option Reading). Ok o) f) h in
     subst (λ (n : ℕ). Counted n t) (sym (add-one k)) (text ++ u, more run full feeds)

@@ -2,8 +2,8 @@
 use Prim.Native.Nat.{ℕ}
 use mathlib.Core.Path.{◌≡◌, sym, ap, ◌∙◌}
 use mathlib.Core.List.{List}
-use Rattle.refusal.specs.declared.Answer.{Answer}
-use Rattle.refusal.specs.declared.Answer.TheVariants.{Refused}
+use Rattle.std.specs.Prelude.{Option, Err}
+use Rattle.refusal.specs.Numbers.{Answer}
 use Rattle.refusal.specs.declared.Refusal.{Refusal}
 use Rattle.flatpack_text.specs.declared.read.State.{State}
 use Rattle.flatpack_text.specs.Moves.{finished}
@@ -12,11 +12,11 @@ use Rattle.report.specs.Explain.{explained, explained_length}
 use Rattle.report.specs.Replies.{located}
 use Rattle.rowreport_core.specs.Held.{error_length, error_bytes, Explained}
 
-pub refused_explained : (a : Answer) (why : Refusal) (s : State) (table error : List ℕ) (place : Site) (k : ℕ) (after : List ℕ)
-    → a ≡ Refused why → place ≡ located (finished s) table
-    → k ≡ explained_length why place.line place.spot error → after ≡ explained why place.line place.spot error
+pub refused_explained : (a : Answer) (why : Refusal) (s : State) (table error : List ℕ) (place : Option Site) (k : ℕ) (after : List ℕ)
+    → a ≡ Err why → place ≡ located (finished s) table
+    → k ≡ explained_length why place error → after ≡ explained why place error
     → Explained a s table error k after
 refused_explained a why s table error place k after e h l b = record {
-  count = l ∙ ap (λ (p : Site). explained_length why p.line p.spot error) h ∙ sym (ap (λ (a : Answer). error_length a (located (finished s) table) error) e);
-  bytes = b ∙ ap (λ (p : Site). explained why p.line p.spot error) h ∙ sym (ap (λ (a : Answer). error_bytes a (located (finished s) table) error) e);
+  count = l ∙ ap (λ (p : Option Site). explained_length why p error) h ∙ sym (ap (λ (a : Answer). error_length a (located (finished s) table) error) e);
+  bytes = b ∙ ap (λ (p : Option Site). explained why p error) h ∙ sym (ap (λ (a : Answer). error_bytes a (located (finished s) table) error) e);
 }

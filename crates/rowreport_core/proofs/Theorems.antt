@@ -12,8 +12,8 @@ use mathlib.Core.Bool.{true}
 use borrow.Author.Tests.{le-leb}
 use lib.Dec.{leb}
 use lib.ListN.{length, replicate, length-replicate}
-use Rattle.refusal.specs.declared.Answer.{Answer}
-use Rattle.refusal.specs.declared.Answer.TheVariants.{Done, Refused}
+use Rattle.std.specs.Prelude.{Option, Ok, Err}
+use Rattle.refusal.specs.Numbers.{Answer}
 use Rattle.refusal.proofs.Outcome.{one_outcome}
 use Rattle.flatpack_text.specs.Text.{parse}
 use Rattle.flatpack_text.specs.Machine.{Told, told, kept, after}
@@ -52,10 +52,10 @@ taken_text (more {text = text} run full feeds) =
     (feeds.text_state text h.0, feeds.text_entries text (replicate 1024 0) h.0 h.1)
 
 -- the sentence stands whole at the front of its buffer
-sentence_front : (a : Answer) (place : Site) (error : List ℕ) → 256 ≤ length error → Front (error_text a place) error (error_length a place error) (error_bytes a place error)
+sentence_front : (a : Answer) (place : Option Site) (error : List ℕ) → 256 ≤ length error → Front (error_text a place) error (error_length a place error) (error_bytes a place error)
 unfolding explained_length explained
-sentence_front Done place error h = record { count = refl; bytes = refl }
-sentence_front (Refused why) place error h = let e : leb 256 (length error) ≡ true = le-leb 256 (length error) h in record { count = rw e; bytes = rw e }
+sentence_front (Ok tt) place error h = record { count = refl; bytes = refl }
+sentence_front (Err why) place error h = let e : leb 256 (length error) ≡ true = le-leb 256 (length error) h in record { count = rw e; bytes = rw e }
 
 pub program_answers : {text : List ℕ} {k : ℕ} {r : Reading} {output₀ error₀ output₁ error₁ : List ℕ} {t : Lengths}
     → Takes begun text k r → length output₀ ≡ 164480 → length error₀ ≡ 256 → Answers r output₀ error₀ t output₁ error₁ → Shown text output₀ error₀ t output₁ error₁

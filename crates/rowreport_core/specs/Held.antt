@@ -1,7 +1,6 @@
 -- For `texts` and its private function, and needs no belief: what is written, from what is held. For a text, `program_answers` (proofs/Theorems.antt) says what it comes to.
-use Rattle.std.specs.Prelude.{ℕ, ◌≡◌, List}
-use Rattle.refusal.specs.declared.Answer.{Answer}
-use Rattle.refusal.specs.declared.Answer.TheVariants.{Done, Refused}
+use Rattle.std.specs.Prelude.{ℕ, ◌≡◌, List, Option, Ok, Err}
+use Rattle.refusal.specs.Numbers.{Answer}
 use Rattle.flatpack_text.specs.declared.read.State.{State}
 use Rattle.flatpack_text.specs.Moves.{finished}
 use Rattle.report.specs.declared.reply.Reply.{Reply}
@@ -12,13 +11,13 @@ use Rattle.rowreport_core.specs.declared.Reading.{Reading}
 use Rattle.rowreport_core.specs.declared.Lengths.{Lengths}
 
 -- the sentence for an answer and a place, in a buffer: how many bytes are written, and the buffer at exit
-abbrev pub error_length : Answer → Site → List ℕ → ℕ
-error_length Done place error = 0
-error_length (Refused why) place error = explained_length why place.line place.spot error
+abbrev pub error_length : Answer → Option Site → List ℕ → ℕ
+error_length (Ok tt) place error = 0
+error_length (Err why) place error = explained_length why place error
 
-abbrev pub error_bytes : Answer → Site → List ℕ → List ℕ
-error_bytes Done place error = error
-error_bytes (Refused why) place error = explained why place.line place.spot error
+abbrev pub error_bytes : Answer → Option Site → List ℕ → List ℕ
+error_bytes (Ok tt) place error = error
+error_bytes (Err why) place error = explained why place error
 
 pub record Explained (a : Answer) (s : State) (table error : List ℕ) (k : ℕ) (after : List ℕ) : Type 0 where
   pub count : k ≡ error_length a (located (finished s) table) error

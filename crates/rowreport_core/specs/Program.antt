@@ -1,8 +1,6 @@
 -- What `rowreport` holds of a text, and what it writes at its end: the text's output to standard output, and the sentence for a refusal to standard error.
-use Rattle.std.specs.Prelude.{ℕ, suc, ◌<◌, ◌≡◌, List, [], ◌++◌, length, drop, replicate}
-use Rattle.refusal.specs.declared.Answer.{Answer}
-use Rattle.refusal.specs.declared.Answer.TheVariants.{Done, Refused}
-use Rattle.refusal.specs.Numbers.{answered}
+use Rattle.std.specs.Prelude.{ℕ, suc, ◌<◌, ◌≡◌, List, [], ◌++◌, length, drop, replicate, Option, Ok, Err}
+use Rattle.refusal.specs.Numbers.{Answer, answered}
 use Rattle.flatpack_text.specs.Text.{parse}
 use Rattle.flatpack_text.specs.Machine.{after}
 use Rattle.flatpack_text.specs.Calls.{Feeds}
@@ -27,9 +25,9 @@ pub data Takes (r : Reading) : List ℕ → ℕ → Reading → Type 0 where
 -- ---- what is written
 
 -- the sentence for an answer and a place; none for an answer that is done
-abbrev pub error_text : Answer → Site → List ℕ
-error_text Done place = []
-error_text (Refused why) place = sentence why place.line place.spot
+abbrev pub error_text : Answer → Option Site → List ℕ
+error_text (Ok tt) place = []
+error_text (Err why) place = sentence why place
 
 -- a text at the front of a buffer: how many bytes are written, and the buffer at exit
 pub record Front (text buffer : List ℕ) (k : ℕ) (after : List ℕ) : Type 0 where
@@ -41,6 +39,6 @@ pub record Shown (text output₀ error₀ : List ℕ) (t : Lengths) (output₁ e
   pub shown : Front (output text) output₀ t.output output₁
   pub answer : Answer
   pub number : answered answer ≡ verdict_of (parse text)
-  pub place : Site
+  pub place : Option Site
   pub placed : SiteOf (parse text) place
   pub told : Front (error_text answer place) error₀ t.error error₁

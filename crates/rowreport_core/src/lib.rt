@@ -1,4 +1,5 @@
-// The program `rowreport` but for its input and output: what it holds of a text while it reads, and the two texts that it writes. The lengths of its buffers are types here.
+// The program `rowreport` but for its input and output: what it holds of a text while it reads, and the two texts that
+// it writes. The lengths of its buffers are types here.
 //
 //   begin    before the first byte
 //   take     a chunk more
@@ -13,7 +14,7 @@ ghost use Rattle.rowreport_core.specs.Held.{Explained, Answers};
 
 use flatpack_text::read;
 use flatpack_text::read::State;
-use refusal::Answer;
+use refusal::Refusal;
 use report::{explain, locate, reply};
 
 // What is held of a text.
@@ -48,39 +49,29 @@ pub fn begin() -> Reading
 pub fn take(r: Reading, chunk: &[u8]) -> Reading
     ensures { Feeds r.state chunk.now r.table result.state result.table }
 {
-    let s = r.state;
     let mut table = r.table;
-    let state = read::feed(s, chunk, &mut table);
+    let state = read::feed(r.state, chunk, &mut table);
     Reading { state, table }
 }
 
 // The sentence for an answer, and where the text is at fault: nothing for a text that is done.
-fn sentence(answer: Answer, s: State, table: &[usize], error: &mut [u8; 256]) -> usize
+fn sentence(answer: Result<(), Refusal>, s: State, table: &[usize], error: &mut [u8; 256]) -> usize
     ensures { Explained answer s table.now error.old result error.new }
 {
     match answer {
-        Answer::Done => 0,
-        Answer::Refused(why) => {
-            let site = locate::locate(s, table);
-            let line = site.line;
-            let spot = site.spot;
-            explain::explain(why, line, spot, error)
-        }
+        Ok(()) => 0,
+        Err(why) => explain::explain(why, locate::locate(s, table), error),
     }
 }
 
-// The report of the text or the number of its refusal in `output`, and what a refusal means, with its place, in `error`: each at the front of its buffer, which is long enough
-// for every text.
+// The report of the text or the number of its refusal in `output`, and what a refusal means, with its place, in
+// `error`: each at the front of its buffer, which is long enough for every text.
 pub fn texts(r: Reading, output: &mut [u8; 164480], error: &mut [u8; 256]) -> Lengths
     ensures { Answers r output.old error.old result output.new error.new }
 {
-    let s = r.state;
-    let table = r.table;
-    let reply = reply::respond(s, &table, output);
-    let answer = reply.answer;
-    let said = sentence(answer, s, &table, error);
+    let reply = reply::respond(r.state, &r.table, output);
     Lengths {
         output: reply.length,
-        error: said,
+        error: sentence(reply.answer, r.state, &r.table, error),
     }
 }

@@ -1,5 +1,6 @@
-// Feeds texts to the reader as rowreport does, in chunks of a few bytes, and writes a line for each: what it is, the number of the answer, the line at fault and the bytes
-// that are written. Long texts, at the limits of what is taken, and a text for each way not to be well formed.
+// Feeds texts to the reader as rowreport does, in chunks of a few bytes, and writes a line for each: what it is, the
+// number of the answer, the line at fault and the bytes that are written. Long texts, at the limits of what is taken,
+// and a text for each way not to be well formed.
 
 #![tactic(auto)]
 
@@ -7,32 +8,17 @@ ghost use Rattle.std.specs.Prelude.{◌≤◌, ◌<◌};
 
 use flatpack_text::read;
 use flatpack_text::read::State;
-use refusal::Answer;
 use report::reply;
 use std::io;
 
-fn wide(x: usize) -> u64 {
-    x as u64
-}
-
-// 0 if done.
-fn number(a: Answer) -> u64 {
-    a.number() as u64
-}
-
-// Writes what is answered to the text that led to a state.
+// Writes what is answered to the text that led to a state: 0 for a text that is done, and for a line that none is.
 fn answer(rt: &impl Print, case: &[u8], s: State, table: &[usize]) -> io::Result<()> {
     let mut out = [0u8; 164480];
     let r = reply::respond(s, table, &mut out);
+    let number = refusal::number(&r.answer);
+    let line = r.line.unwrap_or(0);
     rt.write_all(case)?;
-    rt.write_all(b": ")?;
-    let a = r.answer;
-    print!(rt; "{}", number(a))?;
-    rt.write_all(b", line ")?;
-    print!(rt; "{}", wide(r.line))?;
-    rt.write_all(b", bytes ")?;
-    print!(rt; "{}", wide(r.length))?;
-    rt.write_all(b"\n")
+    println!(rt; ": {}, line {}, bytes {}", number, line, r.length)
 }
 
 // A number and the byte after it.
@@ -47,19 +33,20 @@ fn feed_below(s: State, i: u64, n: u64, table: &mut [usize]) -> State
     requires { i < 1000 }
 {
     if i + 1 < n {
-        return feed_number(s, i + 1, 10, table);
+        feed_number(s, i + 1, b'\n', table)
+    } else {
+        read::feed(s, b"-\n", table)
     }
-    read::feed(s, b"-\n", table)
 }
 
 // The line of node i of n.
 fn feed_node(s: State, i: u64, n: u64, table: &mut [usize]) -> State
     requires { (i < 1000) × (n ≤ 1000) }
 {
-    let a = feed_number(s, i, 9, table);
-    let b = feed_number(a, n + 2 * i, 9, table);
-    let c = feed_number(b, n + 2 * i + 1, 9, table);
-    feed_below(c, i, n, table)
+    let s = feed_number(s, i, b'\t', table);
+    let s = feed_number(s, n + 2 * i, b'\t', table);
+    let s = feed_number(s, n + 2 * i + 1, b'\t', table);
+    feed_below(s, i, n, table)
 }
 
 // The Jordan-Wigner tree of n nodes, with leaves: n at most 1000.
@@ -68,10 +55,8 @@ fn feed_chain(n: u64, table: &mut [usize]) -> State {
     if 1000 < n {
         return s;
     }
-    let mut i = 0;
-    while i < n {
+    for i in 0..n {
         s = feed_node(s, i, n, table);
-        i += 1;
     }
     s
 }
@@ -79,10 +64,8 @@ fn feed_chain(n: u64, table: &mut [usize]) -> State {
 // n good lines after a text, all alike.
 fn feed_good(s: State, n: u64, table: &mut [usize]) -> State {
     let mut t = s;
-    let mut i = 0;
-    while i < n {
+    for _ in 0..n {
         t = read::feed(t, b"0\t1\t2\t-\n", table);
-        i += 1;
     }
     t
 }

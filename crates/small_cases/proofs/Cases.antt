@@ -8,6 +8,7 @@ use lib.Count.{ones, ones_in}
 use lib.Ieee.{Float, fin, neg}
 use lib.IntN.{pos}
 use lib.ListN.{replicate}
+use Rattle.std.specs.Prelude.{Ok, Err}
 use Rattle.refusal.specs.Search.{some_below, all_below, least_below, first_pair}
 use Rattle.algebra.specs.Rows.{bit, common, dot, clash}
 use Rattle.algebra.specs.Modes.{e, d, paired, empty, vacuum_rule, commuting_pair}
@@ -17,19 +18,15 @@ use Rattle.algebra.specs.Solving.{spans, dependent_column, plain, solvable, solv
 use Rattle.dense_block.specs.Words.{strays}
 use Rattle.pauli.specs.declared.Marked.{Marked}
 use Rattle.pauli.specs.declared.Marked.TheVariants.{Imag}
-use Rattle.pauli.specs.declared.Product.TheVariants.{Done as Product-as-Done, Refused as Product-as-Refused}
 use Rattle.pauli.specs.Phases.{letter_power}
 use Rattle.pauli.specs.Product as pauli
 use Rattle.pauli.specs.Product.{LentRow}
-use Rattle.products.specs.declared.RealMultiplied.TheVariants.{Done}
 use Rattle.majorana.specs.Sets.{Set, given, bad_size, bad_row_at, bad_rows}
 use Rattle.majorana.specs.Checks.{vacuum_bad, rows_short, rows_checked, RowsChecked}
 use Rattle.majorana.specs.Vacuums.{vacuum, solve_short, solved, Solves}
 use Rattle.majorana.specs.Codes.{encoded, encode_short, encode_bad, encode_refused, Encodes, decoded, decode_short, decode_bad, decode_refused, Decodes}
 use Rattle.products.specs.Products.{product_of, product_size, product_short, some_high, product_bad, product_refused, RealMultiplies}
-use Rattle.majorana.specs.declared.Encoded.TheVariants.{Done as Made}
-use Rattle.refusal.specs.declared.Answer.{Answer}
-use Rattle.refusal.specs.declared.Answer.TheVariants.{Done as Fine, Refused}
+use Rattle.refusal.specs.Numbers.{Answer}
 use Rattle.refusal.specs.declared.Refusal.TheVariants.{Value, NoVacuum, Undecodable, Commuting}
 use Rattle.maxnto.specs.Formula.{columns, x_part, z_part, phase_of}
 use Rattle.maxnto.specs.Call as maxnto
@@ -86,17 +83,17 @@ pair l r = record { q = 2; left = l; right = r; out_xs = lent 1; out_zs = lent 1
 
 abbrev Holds : Case → Type 0
 Holds (reports text out) = output text ≡ out
-Holds (builds t s) = NamedBuilt (asked t 2 2 (lent 4) (lent 4) (lent 4) (lent 1) (lent 8)) Fine (left s.xs) (left s.zs) (left s.ps) (left (0b00 ∷ [])) (cleared 8)
-Holds (encodes s v l t f) = Encodes s (v ∷ []) (l ∷ []) (lent 1) (Made (record { power = f })) (left (t ∷ []))
-Holds (decodes s v t l) = Decodes s (v ∷ []) (t ∷ []) (lent 1) Fine (left (l ∷ []))
-Holds (foreign s v t) = Decodes s (v ∷ []) (t ∷ []) (lent 1) (Refused Undecodable) (lent 1)
-Holds (solves s v) = Solves s (lent 1) (lent 2) Fine (left (v ∷ [])) (cleared 2)
-Holds (unsolved s) = Solves s (lent 1) (lent 2) (Refused NoVacuum) (lent 1) (cleared 2)
+Holds (builds t s) = NamedBuilt (asked t 2 2 (lent 4) (lent 4) (lent 4) (lent 1) (lent 8)) (Ok tt) (left s.xs) (left s.zs) (left s.ps) (left (0b00 ∷ [])) (cleared 8)
+Holds (encodes s v l t f) = Encodes s (v ∷ []) (l ∷ []) (lent 1) (Ok (record { power = f })) (left (t ∷ []))
+Holds (decodes s v t l) = Decodes s (v ∷ []) (t ∷ []) (lent 1) (Ok tt) (left (l ∷ []))
+Holds (foreign s v t) = Decodes s (v ∷ []) (t ∷ []) (lent 1) (Err Undecodable) (lent 1)
+Holds (solves s v) = Solves s (lent 1) (lent 2) (Ok tt) (left (v ∷ [])) (cleared 2)
+Holds (unsolved s) = Solves s (lent 1) (lent 2) (Err NoVacuum) (lent 1) (cleared 2)
 Holds (checks s v a) = RowsChecked s (v ∷ []) (lent 4) a (cleared 4)
-Holds (multiplies s ks c f x z m) = RealMultiplies s ks c (lent 1) (lent 1) (Done (record { power = f }) m) (left (x ∷ [])) (left (z ∷ []))
-Holds (pairs l r f c x z) = pauli.Multiplied (pair l r) (Product-as-Done (record { power = f }) c) (left (x ∷ [])) (left (z ∷ []))
-Holds (unpaired l r) = pauli.Multiplied (pair l r) (Product-as-Refused Value) (lent 1) (lent 1)
-Holds (maxntos s) = maxnto.Built (maxnto.given 2 (lent 4) (lent 4) (lent 4)) Fine (left s.xs) (left s.zs) (left s.ps)
+Holds (multiplies s ks c f x z m) = RealMultiplies s ks c (lent 1) (lent 1) (Ok (record { power = f }, m)) (left (x ∷ [])) (left (z ∷ []))
+Holds (pairs l r f c x z) = pauli.Multiplied (pair l r) (Ok (record { phase = record { power = f }; commute = c })) (left (x ∷ [])) (left (z ∷ []))
+Holds (unpaired l r) = pauli.Multiplied (pair l r) (Err Value) (lent 1) (lent 1)
+Holds (maxntos s) = maxnto.Built (maxnto.given 2 (lent 4) (lent 4) (lent 4)) (Ok tt) (left s.xs) (left s.zs) (left s.ps)
 
 -- every case of a list
 abbrev AllHold : List Case → Type 0
@@ -151,7 +148,7 @@ cases =
     ∷ unsolved (one 0 2)
     ∷ solves (one 3 0) 0
     ∷ solves (twins 0 1) 0
-    ∷ checks (twins 0 1) 0 (Refused (Commuting 0 1))
+    ∷ checks (twins 0 1) 0 (Err (Commuting 0 1))
     ∷ unsolved (twins 0 3)
     ∷ foreign wide 0b00 0b10
     ∷ decodes wide 0b00 0b01 1
@@ -174,7 +171,7 @@ unfolding named_answer outside twice_in first_fault fault_of scattered climb
     vacuum solved solve_short solvable solved_vacuum plain dependent_column spans vacuum_rule
     rows_checked rows_short vacuum_bad commuting_pair first_pair clash dependent combo
     product_of product_size product_short some_high product_bad product_refused letter_power neg
-    pauli.bad_columns pauli.bad_row pauli.too_short pauli.refused pauli.multiplied pauli.product_x pauli.product_z
+    pauli.bad_row pauli.too_short pauli.refused pauli.multiplied pauli.product_x pauli.product_z
     x_part z_part phase_of columns maxnto.bad_modes maxnto.odd_modes maxnto.too_short maxnto.answer maxnto.xs_left maxnto.zs_left maxnto.ps_left
 small_cases =
     two_modes_output

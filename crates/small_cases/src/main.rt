@@ -1,351 +1,270 @@
-// Runs the small cases worked by hand through the calls, and writes a line for each: the number handed back and then what was written. proofs/Cases.antt proves those
-// of them that are proved, at the contracts of the calls. Bits are written as numbers, column 0 lowest.
+// Runs the small cases worked by hand through the calls, and writes a line for each: the number handed back and then
+// what was written. proofs/Cases.antt proves those of them that are proved, at the contracts of the calls. Bits are
+// written as numbers, column 0 lowest.
 
 #![tactic(auto)]
 
 mod pairs; // pairs.rt: the product of two rows, and whether they commute
 
-use majorana::Encoded;
+use majorana::RowSet;
 use pauli::Marked;
-use products::RealMultiplied;
-use refusal::{Answer, Refusal};
+use refusal::Refusal;
 use std::io;
-use trees::Named;
+use trees::{Flatpack, Named};
 
-fn wide(x: u8) -> u64 {
-    x as u64
+// Jordan-Wigner and parity on two modes, and one mode on two qubits, its rows XI and YI.
+const JORDAN_WIGNER: RowSet = RowSet {
+    modes: 2,
+    qubits: 2,
+    x: &[1, 1, 2, 2],
+    z: &[0, 1, 1, 3],
+    phases: &[0, 1, 0, 1],
+};
+
+const PARITY: RowSet = RowSet {
+    modes: 2,
+    qubits: 2,
+    x: &[1, 1, 3, 3],
+    z: &[2, 1, 0, 2],
+    phases: &[0, 1, 0, 1],
+};
+
+const WIDE: RowSet = RowSet {
+    modes: 1,
+    qubits: 2,
+    x: &[1, 1],
+    z: &[0, 1],
+    phases: &[0, 1],
+};
+
+// The rows that a builder wrote, of one word each.
+#[derive(Drop)]
+struct Rows {
+    x: [u64; 2048],
+    z: [u64; 2048],
+    phases: [u8; 512],
 }
 
-fn wider(x: usize) -> u64 {
-    x as u64
-}
+impl Rows {
+    fn none() -> Rows {
+        Rows {
+            x: [0; 2048],
+            z: [0; 2048],
+            phases: [0; 512],
+        }
+    }
 
-fn text(rt: &impl Print, s: &[u8]) -> io::Result<()> {
-    rt.write_all(s)
-}
-
-fn number(rt: &impl Print, k: u64) -> io::Result<()> {
-    print!(rt; "{k}")
-}
-
-// Writes a blank and a number.
-fn next(rt: &impl Print, k: u64) -> io::Result<()> {
-    text(rt, b" ")?;
-    number(rt, k)
-}
-
-// Starts a line with the case and the number handed back.
-fn start(rt: &impl Print, case: &[u8], r: u8) -> io::Result<()> {
-    text(rt, case)?;
-    text(rt, b":")?;
-    next(rt, wide(r))
-}
-
-// The same, with a size behind the case.
-fn head(rt: &impl Print, case: &[u8], n: usize, r: u8) -> io::Result<()> {
-    text(rt, case)?;
-    next(rt, wider(n))?;
-    text(rt, b":")?;
-    next(rt, wide(r))
-}
-
-// The first two rows, of one word, with their phases.
-fn two_rows(
-    rt: &impl Print,
-    x: &[u64; 2048],
-    z: &[u64; 2048],
-    phases: &[u8; 512],
-) -> io::Result<()> {
-    text(rt, b", p x z")?;
-    next(rt, wide(phases[0]))?;
-    next(rt, x[0])?;
-    next(rt, z[0])?;
-    text(rt, b",")?;
-    next(rt, wide(phases[1]))?;
-    next(rt, x[1])?;
-    next(rt, z[1])
-}
-
-// The two behind them.
-fn two_more(
-    rt: &impl Print,
-    x: &[u64; 2048],
-    z: &[u64; 2048],
-    phases: &[u8; 512],
-) -> io::Result<()> {
-    text(rt, b",")?;
-    next(rt, wide(phases[2]))?;
-    next(rt, x[2])?;
-    next(rt, z[2])?;
-    text(rt, b",")?;
-    next(rt, wide(phases[3]))?;
-    next(rt, x[3])?;
-    next(rt, z[3])
+    // The first four.
+    fn print(&self, rt: &impl Print) -> io::Result<()> {
+        let mut before = ", p x z";
+        for k in 0..4 {
+            print!(rt; "{before} {} {} {}", self.phases[k], self.x[k], self.z[k])?;
+            before = ",";
+        }
+        Ok(())
+    }
 }
 
 // A named tree of n modes; its rows where there are two.
-fn tree(rt: &impl Print, case: &[u8], named: Named, n: usize) -> io::Result<()> {
-    let mut x = [0u64; 2048];
-    let mut z = [0u64; 2048];
-    let mut phases = [0u8; 512];
-    let mut vacuum = [0u64; 4];
-    let mut room = [0u64; 4096];
-    let r = ternarytree::from_name(
+fn tree(rt: &impl Print, case: &str, named: Named, n: usize) -> io::Result<()> {
+    let mut rows = Rows::none();
+    let answer = ternarytree::from_name(
         named,
         n,
         n,
-        &mut x,
-        &mut z,
-        &mut phases,
-        &mut vacuum,
-        &mut room,
+        &mut rows.x,
+        &mut rows.z,
+        &mut rows.phases,
+        &mut [0; 4],
+        &mut [0; 4096],
     );
-    head(rt, case, n, r.number())?;
+    print!(rt; "{case} {n}: {}", refusal::number(&answer))?;
     if n == 2 {
-        two_rows(rt, &x, &z, &phases)?;
-        two_more(rt, &x, &z, &phases)?;
+        rows.print(rt)?;
     }
-    text(rt, b"\n")
+    println!(rt)
 }
 
 // The four named trees of n modes.
 fn trees(rt: &impl Print, n: usize) -> io::Result<()> {
-    tree(rt, b"Jordan-Wigner", Named::JordanWigner, n)?;
-    tree(rt, b"parity", Named::Parity, n)?;
-    tree(rt, b"Bravyi-Kitaev", Named::BravyiKitaev, n)?;
-    tree(rt, b"JKMN", Named::Jkmn, n)
-}
-
-// One entry, qubit 0, with this X slot and no other.
-fn leaf(rt: &impl Print, slot: usize) -> io::Result<()> {
-    let mut x = [0u64; 2];
-    let mut z = [0u64; 2];
-    let mut phases = [0u8; 2];
-    let mut vacuum = [0u64; 1];
-    let mut room = [0u64; 4];
-    let entries = [0usize, slot, 0, 0];
-    let filled = [true, false, false];
-    let r = ternarytree::from_flatpack(
-        1,
-        1,
-        &entries,
-        &filled,
-        &mut x,
-        &mut z,
-        &mut phases,
-        &mut vacuum,
-        &mut room,
-    );
-    head(rt, b"one entry, X slot", slot, r.number())?;
-    text(rt, b"\n")
-}
-
-// MaxNTO of n modes; its rows where there are two.
-fn maxnto(rt: &impl Print, n: usize) -> io::Result<()> {
-    let mut x = [0u64; 2048];
-    let mut z = [0u64; 2048];
-    let mut phases = [0u8; 512];
-    let r = maxnto::maxnto(n, &mut x, &mut z, &mut phases);
-    head(rt, b"MaxNTO", n, r.number())?;
-    if n == 2 {
-        two_rows(rt, &x, &z, &phases)?;
-        two_more(rt, &x, &z, &phases)?;
-    }
-    text(rt, b"\n")
-}
-
-// Encodes a list at vacuum 0.
-fn encode(
-    rt: &impl Print,
-    case: &[u8],
-    n: usize,
-    x: &[u64],
-    z: &[u64],
-    phases: &[u8],
-    list: u64,
-) -> io::Result<()> {
-    let mut out = [9u64; 1];
-    let lent = [list; 1];
-    let vacuum = [0u64; 1];
-    match majorana::try_encode(n, 2, x, z, phases, &vacuum, &lent, &mut out) {
-        Encoded::Done(f) => {
-            start(rt, case, 0)?;
-            text(rt, b", phase")?;
-            next(rt, wide(f.power))?;
-        }
-        Encoded::Refused(why) => start(rt, case, why.number())?,
-    }
-    text(rt, b", string")?;
-    next(rt, out[0])?;
-    text(rt, b"\n")
-}
-
-// Decodes a string at vacuum 0.
-fn decode(
-    rt: &impl Print,
-    case: &[u8],
-    n: usize,
-    x: &[u64],
-    z: &[u64],
-    phases: &[u8],
-    string: u64,
-) -> io::Result<()> {
-    let mut out = [9u64; 1];
-    let lent = [string; 1];
-    let vacuum = [0u64; 1];
-    let r = majorana::decode_zbasis_state(n, 2, x, z, phases, &vacuum, &lent, &mut out);
-    start(rt, case, r.number())?;
-    text(rt, b", list")?;
-    next(rt, out[0])?;
-    text(rt, b"\n")
-}
-
-// One mode on one qubit: X parts 1 and 1, Z parts 0 and z1, phases p0 and p1.
-fn solve(rt: &impl Print, case: &[u8], z1: u64, p0: u8, p1: u8) -> io::Result<()> {
-    let x = [1u64, 1];
-    let z = [0u64, z1];
-    let phases = [p0, p1];
-    let mut v = [9u64; 1];
-    let mut room = [9u64; 2];
-    let r = majorana::determine_vacuum_state(1, 1, &x, &z, &phases, &mut v, &mut room);
-    start(rt, case, r.number())?;
-    text(rt, b", vacuum")?;
-    next(rt, v[0])?;
-    text(rt, b"\n")
-}
-
-fn check(rt: &impl Print, case: &[u8], z1: u64, p0: u8, p1: u8) -> io::Result<()> {
-    let x = [1u64, 1];
-    let z = [0u64, z1];
-    let phases = [p0, p1];
-    let v = [0u64; 1];
-    let mut room = [9u64; 4];
-    let r = majorana::check_rows(1, 1, &x, &z, &phases, &v, &mut room);
-    start(rt, case, r.number())?;
-    if let Answer::Refused(why) = r {
-        if let Refusal::Commuting(j, k) = why {
-            text(rt, b", rows")?;
-            next(rt, wider(j))?;
-            next(rt, wider(k))?;
-        }
-    }
-    text(rt, b"\n")
-}
-
-// A coefficient that came back, which is 2 or -2 times 1 or i.
-fn marked(rt: &impl Print, m: Marked) -> io::Result<()> {
-    match m {
-        Marked::Real(c) => {
-            text(rt, b", real")?;
-            sign(rt, c)
-        }
-        Marked::Imag(c) => {
-            text(rt, b", imaginary")?;
-            sign(rt, c)
-        }
-    }
-}
-
-fn sign(rt: &impl Print, c: f64) -> io::Result<()> {
-    if c == 2.0 {
-        text(rt, b" 2")?;
-    }
-    if c == -2.0 {
-        text(rt, b" -2")?;
+    for (case, named) in [
+        ("Jordan-Wigner", Named::JordanWigner),
+        ("parity", Named::Parity),
+        ("Bravyi-Kitaev", Named::BravyiKitaev),
+        ("JKMN", Named::Jkmn),
+    ] {
+        tree(rt, case, named, n)?;
     }
     Ok(())
 }
 
-// Rows a and then b of Jordan-Wigner on two modes, with coefficient 2.
-fn product(rt: &impl Print, a: usize, b: usize) -> io::Result<()> {
-    let x = [1u64, 1, 2, 2];
-    let z = [0u64, 1, 1, 3];
-    let phases = [0u8, 1, 0, 1];
-    let numbers = [a, b];
-    let mut ox = [9u64; 1];
-    let mut oz = [9u64; 1];
-    match products::product_real(2, 2, &x, &z, &phases, &numbers, 2.0, &mut ox, &mut oz) {
-        RealMultiplied::Done(f, m) => {
-            head(rt, b"product from row", a, 0)?;
-            text(rt, b", p x z")?;
-            next(rt, wide(f.power))?;
-            next(rt, ox[0])?;
-            next(rt, oz[0])?;
-            marked(rt, m)?;
-        }
-        RealMultiplied::Refused(why) => head(rt, b"product from row", a, why.number())?,
-    }
-    text(rt, b"\n")
+// One entry, qubit 0, with this X slot and no other.
+fn leaf(rt: &impl Print, slot: usize) -> io::Result<()> {
+    let flat = Flatpack {
+        modes: 1,
+        entries: &[0, slot, 0, 0],
+        filled: &[true, false, false],
+    };
+    let answer = ternarytree::from_flatpack(
+        flat,
+        1,
+        &mut [0; 2],
+        &mut [0; 2],
+        &mut [0; 2],
+        &mut [0; 1],
+        &mut [0; 4],
+    );
+    println!(rt; "one entry, X slot {slot}: {}", refusal::number(&answer))
 }
 
-// Writes whether the number of common ones is odd.
-fn common(rt: &impl Print, case: &[u8], odd: bool) -> io::Result<()> {
-    text(rt, b"common ones of ")?;
-    text(rt, case)?;
-    if odd {
-        text(rt, b": odd\n")
-    } else {
-        text(rt, b": even\n")
+// MaxNTO of n modes; its rows where there are two.
+fn maxnto(rt: &impl Print, n: usize) -> io::Result<()> {
+    let mut rows = Rows::none();
+    let answer = maxnto::maxnto(n, &mut rows.x, &mut rows.z, &mut rows.phases);
+    print!(rt; "MaxNTO {n}: {}", refusal::number(&answer))?;
+    if n == 2 {
+        rows.print(rt)?;
     }
+    println!(rt)
 }
 
-// Of two rows, and of two pairs together.
-fn parities(rt: &impl Print) -> io::Result<()> {
-    let all = [0xffff_ffff_ffff_ffffu64; 4];
-    let but_last = [
-        0xffff_ffff_ffff_ffffu64,
-        0xffff_ffff_ffff_ffff,
-        0xffff_ffff_ffff_ffff,
-        0x7fff_ffff_ffff_ffff,
-    ];
-    let a = [1u64, 1];
-    let b = [1u64, 0];
-    let c = [1u64, 1, 1];
-    let d = [1u64];
-    common(rt, b"words 1 1 and 1 1", dense_block::parity_and(&a, &a))?;
-    common(rt, b"words 1 1 and 1 0", dense_block::parity_and(&a, &b))?;
-    common(rt, b"256 columns", dense_block::parity_and(&all, &all))?;
-    common(rt, b"255 columns", dense_block::parity_and(&all, &but_last))?;
-    common(rt, b"words 1 1 1 and 1", dense_block::parity_and(&c, &d))?;
-    common(rt, b"words 1 1 and 1 1 1", dense_block::parity_and(&a, &c))?;
-    let alike = dense_block::fold_both(&a, &a, &a, &b);
-    common(
-        rt,
-        b"words 1 1 and 1 1, 1 1 and 1 0",
-        dense_block::parity(alike),
-    )?;
-    let unlike = dense_block::fold_both(&a, &b, &d, &c);
-    common(
-        rt,
-        b"words 1 1 and 1 0, 1 and 1 1 1",
-        dense_block::parity(unlike),
+// Encodes a list at vacuum 0.
+fn encode(rt: &impl Print, case: &str, set: RowSet, list: u64) -> io::Result<()> {
+    let mut out = [9];
+    let answer = majorana::try_encode(set, &[0], &[list], &mut out);
+    print!(rt; "{case}, list {list}: {}", refusal::number(&answer))?;
+    if let Ok(phase) = answer {
+        print!(rt; ", phase {}", phase.power)?;
+    }
+    println!(rt; ", string {}", out[0])
+}
+
+// Decodes a string at vacuum 0.
+fn decode(rt: &impl Print, case: &str, set: RowSet, string: u64) -> io::Result<()> {
+    let mut out = [9];
+    let answer = majorana::decode_zbasis_state(set, &[0], &[string], &mut out);
+    println!(rt;
+        "{case}, string {string}: {}, list {}",
+        refusal::number(&answer),
+        out[0]
     )
 }
 
+// One mode on one qubit: its rows are X and then X, or Y where the second has a Z part.
+#[derive(Clone, Copy)]
+struct Mode {
+    z: [u64; 2],
+    phases: [u8; 2],
+}
+
+impl Mode {
+    fn set(&self) -> RowSet<'_> {
+        RowSet {
+            modes: 1,
+            qubits: 1,
+            x: &[1, 1],
+            z: &self.z,
+            phases: &self.phases,
+        }
+    }
+
+    fn print(&self, rt: &impl Print) -> io::Result<()> {
+        let second = if self.z[1] == 0 { "X" } else { "Y" };
+        print!(rt;
+            "rows X and {second}, phases {} and {}",
+            self.phases[0], self.phases[1]
+        )
+    }
+}
+
+fn solve(rt: &impl Print, mode: Mode) -> io::Result<()> {
+    let mut v = [9];
+    let answer = majorana::determine_vacuum_state(mode.set(), &mut v, &mut [9; 2]);
+    mode.print(rt)?;
+    println!(rt; ": {}, vacuum {}", refusal::number(&answer), v[0])
+}
+
+// The row check at vacuum 0.
+fn check(rt: &impl Print, mode: Mode) -> io::Result<()> {
+    let answer = majorana::check_rows(mode.set(), &[0], &mut [9; 4]);
+    mode.print(rt)?;
+    print!(rt; ", checked: {}", refusal::number(&answer))?;
+    if let Err(Refusal::Commuting(j, k)) = answer {
+        print!(rt; ", rows {j} {k}")?;
+    }
+    println!(rt)
+}
+
+// Rows a and then b of Jordan-Wigner on two modes, with coefficient 2; what comes back is 2 or -2 times 1 or i.
+fn product(rt: &impl Print, a: usize, b: usize) -> io::Result<()> {
+    let mut ox = [9];
+    let mut oz = [9];
+    let answer = products::product_real(JORDAN_WIGNER, &[a, b], 2.0, &mut ox, &mut oz);
+    print!(rt; "product from row {a}: {}", refusal::number(&answer))?;
+    if let Ok((phase, c)) = answer {
+        print!(rt; ", p x z {} {} {}", phase.power, ox[0], oz[0])?;
+        match c {
+            Marked::Real(c) => print!(rt; ", real {c}")?,
+            Marked::Imag(c) => print!(rt; ", imaginary {c}")?,
+        }
+    }
+    println!(rt)
+}
+
+// Whether the number of common ones is odd, of two rows and of two pairs together.
+fn parities(rt: &impl Print) -> io::Result<()> {
+    let all = [u64::MAX; 4];
+    let but_last = [u64::MAX, u64::MAX, u64::MAX, u64::MAX >> 1];
+    let a = [1, 1];
+    let b = [1, 0];
+    let c = [1, 1, 1];
+    let d = [1];
+    let alike = dense_block::fold_both(&a, &a, &a, &b);
+    let unlike = dense_block::fold_both(&a, &b, &d, &c);
+    for (case, odd) in [
+        ("words 1 1 and 1 1", dense_block::parity_and(&a, &a)),
+        ("words 1 1 and 1 0", dense_block::parity_and(&a, &b)),
+        ("256 columns", dense_block::parity_and(&all, &all)),
+        ("255 columns", dense_block::parity_and(&all, &but_last)),
+        ("words 1 1 1 and 1", dense_block::parity_and(&c, &d)),
+        ("words 1 1 and 1 1 1", dense_block::parity_and(&a, &c)),
+        ("words 1 1 and 1 1, 1 1 and 1 0", dense_block::parity(alike)),
+        (
+            "words 1 1 and 1 0, 1 and 1 1 1",
+            dense_block::parity(unlike),
+        ),
+    ] {
+        let parity = if odd { "odd" } else { "even" };
+        println!(rt; "common ones of {case}: {parity}")?;
+    }
+    Ok(())
+}
+
 fn codes(rt: &impl Print) -> io::Result<()> {
-    let phases = [0u8, 1, 0, 1];
-    let jx = [1u64, 1, 2, 2];
-    let jz = [0u64, 1, 1, 3];
-    let px = [1u64, 1, 3, 3];
-    let pz = [2u64, 1, 0, 2];
-    encode(rt, b"Jordan-Wigner, list 3", 2, &jx, &jz, &phases, 3)?;
-    encode(rt, b"parity, list 3", 2, &px, &pz, &phases, 3)?;
-    decode(rt, b"parity, string 2", 2, &px, &pz, &phases, 2)?;
-    let x = [1u64, 1];
-    let z = [0u64, 1];
-    let p = [0u8, 1];
-    decode(rt, b"rows XI and YI, string 2", 1, &x, &z, &p, 2)?;
-    decode(rt, b"rows XI and YI, string 1", 1, &x, &z, &p, 1)
+    encode(rt, "Jordan-Wigner", JORDAN_WIGNER, 3)?;
+    encode(rt, "parity", PARITY, 3)?;
+    decode(rt, "parity", PARITY, 2)?;
+    decode(rt, "rows XI and YI", WIDE, 2)?;
+    decode(rt, "rows XI and YI", WIDE, 1)
 }
 
 fn vacuums(rt: &impl Print) -> io::Result<()> {
-    solve(rt, b"rows X and Y, phases 0 and 1", 1, 0, 1)?;
-    solve(rt, b"rows X and Y, phases 0 and 3", 1, 0, 3)?;
-    solve(rt, b"rows X and Y, phases 0 and 2", 1, 0, 2)?;
-    solve(rt, b"rows X and Y, phases 3 and 0", 1, 3, 0)?;
-    solve(rt, b"rows X and X, phases 0 and 1", 0, 0, 1)?;
-    check(rt, b"rows X and X, phases 0 and 1, checked", 0, 0, 1)?;
-    solve(rt, b"rows X and X, phases 0 and 3", 0, 0, 3)
+    for phases in [[0, 1], [0, 3], [0, 2], [3, 0]] {
+        solve(rt, Mode { z: [0, 1], phases })?;
+    }
+    let twins = Mode {
+        z: [0, 0],
+        phases: [0, 1],
+    };
+    solve(rt, twins)?;
+    check(rt, twins)?;
+    solve(
+        rt,
+        Mode {
+            z: [0, 0],
+            phases: [0, 3],
+        },
+    )
 }
 
 fn main(rt: HostRuntime) -> io::Result<()> {
@@ -355,12 +274,9 @@ fn main(rt: HostRuntime) -> io::Result<()> {
     product(&rt, 0, 1)?;
     product(&rt, 1, 0)?;
     maxnto(&rt, 2)?;
-    trees(&rt, 0)?;
-    trees(&rt, 257)?;
-    trees(&rt, 1)?;
-    trees(&rt, 128)?;
-    trees(&rt, 129)?;
-    trees(&rt, 256)?;
+    for n in [0, 257, 1, 128, 129, 256] {
+        trees(&rt, n)?;
+    }
     maxnto(&rt, 255)?;
     maxnto(&rt, 256)?;
     leaf(&rt, 513)?;

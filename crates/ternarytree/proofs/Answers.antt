@@ -6,11 +6,11 @@ use mathlib.Core.Path.{◌≡◌, refl, sym, ◌∙◌}
 use mathlib.Core.Logic.{◌≢◌}
 use mathlib.Core.Bool.{Bool, true, false, ◌||◌}
 use mathlib.Core.List.{List, [], ◌∷◌}
-use borrow.Author.Tests.{ltb-true, leb-false, ne_eqb}
+use borrow.Author.Tests.{ltb-true, le-ltb, leb-false, ne_eqb}
 use lib.Dec.{leb, ltb}
 use lib.ListN.{length}
-use Rattle.refusal.specs.declared.Answer.{Answer}
-use Rattle.refusal.specs.declared.Answer.TheVariants.{Refused}
+use Rattle.refusal.specs.Numbers.{Answer}
+use Rattle.std.specs.Prelude.{Err}
 use Rattle.refusal.specs.declared.Refusal.TheVariants.{Size, Short, Qubits}
 use Rattle.refusal.specs.Search.{pair, no_pair}
 use Rattle.refusal.specs.Table.{Rule, ◌gives◌, ◌names◌, first_of, Lent, ◌of◌, short, past_two}
@@ -23,7 +23,7 @@ use Rattle.trees.specs.Leaves.{rows}
 use Rattle.trees.specs.Named.{named_tree}
 use Rattle.tree_sizes.proofs.SizeLaws.{inside}
 use Rattle.tree_sizes.specs.Sizes.{outside, qubit_at, reaches, unreadable}
-use Rattle.ternarytree.specs.Building.{needed, tree_checks, Input, flat, tree_of, bad_size, too_short, bad_qubits, answer, FlatBuilt, NamedInput, named_answer, NamedBuilt}
+use Rattle.ternarytree.specs.Building.{needed, tree_checks, Input, tree_of, bad_size, too_short, bad_qubits, answer, FlatBuilt, NamedInput, named_answer, NamedBuilt}
 use Rattle.ternarytree.specs.Tables.{AtMost, flat_task, TreeBuilt}
 use Rattle.ternarytree.proofs.Verdicts.{fault_number}
 
@@ -37,25 +37,14 @@ qubits_lie es n q w e h i l =
     omega (arith, e)
 
 -- slots that can be read
-pub readable : (n : ℕ) (es : List ℕ) (fs : List Bool) → unreadable n es fs ≡ false → (n ≤ 256) × (4 * n ≤ length es) × (3 * n ≤ length fs) × AtMost n 255 (qubit_at es)
+pub readable : (n : ℕ) (es : List ℕ) (fs : List Bool) → unreadable n es fs ≡ false → (0 < n) × (n ≤ 256) × (4 * n ≤ length es) × (3 * n ≤ length fs) × AtMost n 255 (qubit_at es)
 unfolding unreadable reaches
 readable n es fs h =
     let lent : List Lent = (4 * n of length es) ∷ (3 * n of length fs) ∷ [] in
     let r = or_right (outside n) _ h in
     let l = hold lent (or_left (short lent) _ r) in
-    ((inside n (or_left (outside n) _ h)).1, l.0, l.1.0, λ i g. let low = leb-false 256 (qubit_at es i) (none_at n (λ k. leb 256 (qubit_at es k)) (or_right (short lent) _ r) i g) in omega arith)
-
--- ---- 3
-
-module _ (leaves : Bool) (n q w : ℕ) (es : List ℕ) (fs : List Bool) where
-  pub qubits_refused : (ltb q n || reaches es n q) ≡ true → (xs zs ps vs : List ℕ)
-      → TreeBuilt (flat_task leaves n q es fs) w (rows leaves (flat leaves n es fs)) xs zs ps vs (Refused Qubits) xs zs ps vs
-  qubits_refused h xs zs ps vs = record { told = rw h; x_parts = rw h; z_parts = rw h; phases = rw h; vacuum = rw h }
-
-  pub qubits_passed : (ltb q n || reaches es n q) ≡ false → (xs zs ps vs : List ℕ) (r : Answer) (xs' zs' ps' vs' : List ℕ)
-      → TreeBuilt (first_of (tree_checks leaves (flat leaves n es fs))) w (rows leaves (flat leaves n es fs)) xs zs ps vs r xs' zs' ps' vs'
-      → TreeBuilt (flat_task leaves n q es fs) w (rows leaves (flat leaves n es fs)) xs zs ps vs r xs' zs' ps' vs'
-  qubits_passed h xs zs ps vs r xs' zs' ps' vs' b = rw h b
+    let n_in = inside n (or_left (outside n) _ h) in
+    (n_in.0, n_in.1, l.0, l.1.0, λ i g. let low = leb-false 256 (qubit_at es i) (none_at n (λ k. leb 256 (qubit_at es k)) (or_right (short lent) _ r) i g) in omega arith)
 
 -- ---- past 1 and 2
 
@@ -79,11 +68,11 @@ tree_late leaves t =
 -- ---- flatpacks
 
 module _ (i : Input) where
-  pub flat_size : bad_size i ≡ true → FlatBuilt i (Refused Size) i.out.xs i.out.zs i.out.ps i.out.vs i.out.room
+  pub flat_size : bad_size i ≡ true → FlatBuilt i (Err Size) i.out.xs i.out.zs i.out.ps i.out.vs i.out.room
   unfolding answer
   flat_size h = record { told = rw h; x_parts = rw h; z_parts = rw h; phases = rw h; vacuum = rw h; work = rw h }
 
-  pub flat_lengths : bad_size i ≡ false → too_short i ≡ true → FlatBuilt i (Refused Short) i.out.xs i.out.zs i.out.ps i.out.vs i.out.room
+  pub flat_lengths : bad_size i ≡ false → too_short i ≡ true → FlatBuilt i (Err Short) i.out.xs i.out.zs i.out.ps i.out.vs i.out.room
   unfolding answer
   flat_lengths h k = record { told = rw (h, k); x_parts = rw (h, k); z_parts = rw (h, k); phases = rw (h, k); vacuum = rw (h, k); work = rw (h, k) }
 
@@ -91,20 +80,39 @@ module _ (i : Input) where
   unfolding answer bad_qubits
   flat_answer h k = rw (h, k)
 
-  pub flat_task_lem : bad_size i ≡ false → too_short i ≡ false → (r : Answer) (xs zs ps vs room : List ℕ)
-      → TreeBuilt (flat_task i.leaves i.n i.q i.es i.fs) (words_for i.q) (rows i.leaves (tree_of i)) i.out.xs i.out.zs i.out.ps i.out.vs r xs zs ps vs
+  cleared : {room : List ℕ} → room ≡ zeroed (4 * i.n * words_for i.q) i.out.room → room ≡ past_two (flat_task i.leaves i.n i.q i.es i.fs) (zeroed (4 * i.n * words_for i.q) i.out.room) i.out.room
+  cleared e = e ∙ sym (late_past ((ltb i.q i.n || reaches i.es i.n i.q gives 3) ∷ tree_checks i.leaves (tree_of i)) (λ e. omega arith, tree_late i.leaves (tree_of i)) _ _)
+
+  pub flat_qubits : bad_size i ≡ false → too_short i ≡ false → (ltb i.q i.n || reaches i.es i.n i.q) ≡ true → (room : List ℕ)
+      → room ≡ zeroed (4 * i.n * words_for i.q) i.out.room → FlatBuilt i (Err Qubits) i.out.xs i.out.zs i.out.ps i.out.vs room
+  flat_qubits h k l room e =
+      let work = cleared e in
+      let work' = rw l at work in
+      rw (flat_answer h k, l) (record { told = refl; x_parts = refl; z_parts = refl; phases = refl; vacuum = refl; work = work' })
+
+  pub flat_task_lem : bad_size i ≡ false → too_short i ≡ false → (ltb i.q i.n || reaches i.es i.n i.q) ≡ false → (r : Answer) (xs zs ps vs room : List ℕ)
+      → TreeBuilt (first_of (tree_checks i.leaves (tree_of i))) (words_for i.q) (rows i.leaves (tree_of i)) i.out.xs i.out.zs i.out.ps i.out.vs r xs zs ps vs
       → room ≡ zeroed (4 * i.n * words_for i.q) i.out.room
       → FlatBuilt i r xs zs ps vs room
-  flat_task_lem h k r xs zs ps vs room b e =
-      let a = flat_answer h k in
-      rw a (record {
+  flat_task_lem h k l r xs zs ps vs room b e =
+      let work = cleared e in
+      let work' = rw l at work in
+      rw (flat_answer h k, l) (record {
         told = b.told;
         x_parts = b.x_parts;
         z_parts = b.z_parts;
         phases = b.phases;
         vacuum = b.vacuum;
-        work = e ∙ sym (late_past ((ltb i.q i.n || reaches i.es i.n i.q gives 3) ∷ tree_checks i.leaves (tree_of i)) (λ e. omega arith, tree_late i.leaves (tree_of i)) _ _);
+        work = work';
       })
+
+  -- past 1 and 2 the slots can be read
+  pub read_past_two : bad_size i ≡ false → too_short i ≡ false → unreadable i.n i.es i.fs ≡ false
+  unfolding bad_size too_short unreadable
+  read_past_two h k =
+      let b = or_right (outside i.n) _ h in
+      let l = hold ((4 * i.n of length i.es) ∷ (3 * i.n of length i.fs) ∷ needed i.n (words_for i.q) i.out) k in
+      rw (or_left (outside i.n) _ h, le-ltb (length i.es) (4 * i.n) l.0, le-ltb (length i.fs) (3 * i.n) l.1.0) (or_right (outside i.q) _ b)
 
 -- an answer that is none of 1, 2 and 3 is that of the tests of the tree
 pub record Tested (i : Input) : Type 0 where
@@ -127,17 +135,17 @@ tested i = go (bad_size i) (too_short i) (bad_qubits i) refl refl refl
 -- ---- named trees
 
 module _ (i : NamedInput) where
-  pub named_size : (outside i.n || outside i.q) ≡ true → NamedBuilt i (Refused Size) i.out.xs i.out.zs i.out.ps i.out.vs i.out.room
+  pub named_size : (outside i.n || outside i.q) ≡ true → NamedBuilt i (Err Size) i.out.xs i.out.zs i.out.ps i.out.vs i.out.room
   unfolding named_answer
   named_size h = record { told = rw h; x_parts = rw h; z_parts = rw h; phases = rw h; vacuum = rw h; work = rw h }
 
   module _ (h : (outside i.n || outside i.q) ≡ false) where
-    pub named_lengths : short (needed i.n (words_for i.n) i.out) ≡ true → NamedBuilt i (Refused Short) i.out.xs i.out.zs i.out.ps i.out.vs i.out.room
+    pub named_lengths : short (needed i.n (words_for i.n) i.out) ≡ true → NamedBuilt i (Err Short) i.out.xs i.out.zs i.out.ps i.out.vs i.out.room
     unfolding named_answer
     named_lengths k = record { told = rw (h, k); x_parts = rw (h, k); z_parts = rw (h, k); phases = rw (h, k); vacuum = rw (h, k); work = rw (h, k) }
 
     module _ (k : short (needed i.n (words_for i.n) i.out) ≡ false) (room : List ℕ) (e : room ≡ zeroed (4 * i.n * words_for i.n) i.out.room) where
-      pub named_qubits : ltb i.q i.n ≡ true → NamedBuilt i (Refused Qubits) i.out.xs i.out.zs i.out.ps i.out.vs room
+      pub named_qubits : ltb i.q i.n ≡ true → NamedBuilt i (Err Qubits) i.out.xs i.out.zs i.out.ps i.out.vs room
       unfolding named_answer
       named_qubits l = record { told = rw (h, k, l); x_parts = rw (h, k, l); z_parts = rw (h, k, l); phases = rw (h, k, l); vacuum = rw (h, k, l); work = rw (h, k, l) e }
 

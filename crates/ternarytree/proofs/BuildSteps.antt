@@ -6,7 +6,7 @@ use mathlib.Core.Bool.{Bool, true, false}
 use mathlib.Core.List.{List}
 use lib.ListN.{length, drop}
 use lib.Seq.{drop_at}
-use Rattle.refusal.specs.declared.Answer.TheVariants.{Done, Refused}
+use Rattle.std.specs.Prelude.{Ok, Err}
 use Rattle.refusal.specs.declared.Refusal.TheVariants.{Vacuum}
 use Rattle.algebra.specs.Modes.{vacuum_rule}
 use Rattle.dense_block.specs.Words.{words_for, zeroed}
@@ -58,7 +58,7 @@ module _ (leaves : Bool) (t : Tree) (n w : ℕ) (parents columns slots : List �
       phase = phase_at;
     }
 
-    pub built_done : (vs vs' : List ℕ) → vs' ≡ zeroed w vs → true ≡ vacuum_rule (rows leaves t) 0 → TreeBuilt (rows_answer (rows leaves t)) w (rows leaves t) xs zs qs vs Done xs' zs' qs' vs'
+    pub built_done : (vs vs' : List ℕ) → vs' ≡ zeroed w vs → true ≡ vacuum_rule (rows leaves t) 0 → TreeBuilt (rows_answer (rows leaves t)) w (rows leaves t) xs zs qs vs (Ok tt) xs' zs' qs' vs'
     built_done vs vs' e h =
         let s = sym ok.qubits.size in
         record {
@@ -71,7 +71,7 @@ module _ (leaves : Bool) (t : Tree) (n w : ℕ) (parents columns slots : List �
 
     pub built_broken : (vs vs' xs'' zs'' qs'' : List ℕ) → 2 * n * w ≤ length xs → 2 * n * w ≤ length zs → 2 * n ≤ length qs → vs' ≡ zeroed w vs → false ≡ vacuum_rule (rows leaves t) 0
         → xs'' ≡ zeroed (2 * n * w) xs' → zs'' ≡ zeroed (2 * n * w) zs' → qs'' ≡ zeroed (2 * n) qs'
-        → TreeBuilt (rows_answer (rows leaves t)) w (rows leaves t) xs zs qs vs (Refused Vacuum) xs'' zs'' qs'' vs'
+        → TreeBuilt (rows_answer (rows leaves t)) w (rows leaves t) xs zs qs vs (Err Vacuum) xs'' zs'' qs'' vs'
     built_broken vs vs' xs'' zs'' qs'' hx hz hq e h ex ez eq =
         let s = sym ok.qubits.size in
         record {

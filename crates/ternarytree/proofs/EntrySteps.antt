@@ -14,11 +14,12 @@ use Rattle.refusal.specs.Search.{Least, found, none, some_below, least_below}
 use Rattle.refusal.proofs.Searches.{some_of, none_of, least_found, least_none, least_missing}
 use Rattle.trees.specs.declared.Child.TheVariants.{Empty as empty, Node as node, Low as low}
 use Rattle.trees.specs.Trees.{twice_in}
-use Rattle.trees.specs.declared.Slot.{Slot}
-use Rattle.trees.specs.declared.Slot.TheVariants.{Blank as blank, Number as number}
+use Rattle.std.specs.Prelude.{Option, Some, None}
 use Rattle.trees.specs.Flatpacks.{entry_in, past, leaf_numbered, unnamed, named, child_of}
 use Rattle.tree_sizes.specs.Sizes.{qubit_at}
 use Rattle.ternarytree.specs.Building.{slot_at, flat}
+use Rattle.ternarytree.specs.declared.entries.Entries.{Entries}
+use Rattle.ternarytree.specs.Reading.{read}
 use Rattle.ternarytree.specs.Tables.{code, uncode, Holds, AtMost, child_in}
 use Rattle.ternarytree.proofs.Codes.{code_none, uncode_code, mark}
 
@@ -57,7 +58,7 @@ module _ (qubit : ℕ → ℕ) where
 
 -- ---- what a slot holds
 
-module _ (l : List ℕ) (top q e : ℕ) (leaves : Bool) (s : Slot) (is-q : s ≡ number q) (is-e : e ≡ get_or l q 0) where
+module _ (l : List ℕ) (top q e : ℕ) (leaves : Bool) (s : Option ℕ) (is-q : s ≡ Some q) (is-e : e ≡ get_or l q 0) where
   pub names_node : e ≢ 0 → node (e - 1) ≡ child_in l top leaves s
   names_node h = rw (is-q, ← is-e) (go e h)
     where
@@ -89,6 +90,10 @@ module _ (n : ℕ) (es : List ℕ) (fs : List Bool) (leaves : Bool) (l : List �
   unfolding child_of
   child_is k = go (slot_at es fs k)
     where
-      go : (s : Slot) → child_in l (past (qubit_at es) n) leaves s ≡ child_of leaves (record { n = n; qubit = qubit_at es; slot = slot_at es fs }) s
-      go blank = refl
-      go (number q) = rw (entry_any q)
+      go : (s : Option ℕ) → child_in l (past (qubit_at es) n) leaves s ≡ child_of leaves (record { n = n; qubit = qubit_at es; slot = slot_at es fs }) s
+      go None = refl
+      go (Some q) = rw (entry_any q)
+
+-- the tree that is read, by its parts
+pub read_is : {leaves : Bool} {n : ℕ} {es : List ℕ} {fs : List Bool} (e : Entries) → e.leaves ≡ leaves → e.n ≡ n → e.numbers.now ≡ es → e.filled.now ≡ fs → read e ≡ flat leaves n es fs
+read_is e l n es fs = rw (l, n, es, fs)

@@ -3,7 +3,7 @@
 --
 -- In plain words: no input leaves find_fault two answers. Where it answers a slot, that slot has a fault and no slot before it has one; and building the same
 -- flatpack, if it is not refused by 1, 2 or 3, is refused by the number of that fault. Where building is refused by a number from 4 to 9, either find_fault answers
--- the slot whose fault has that number, or it answers nowhere and the cause stands in no slot: a qubit has two entries, not all nodes hang from one root, or a leaf
+-- the slot whose fault has that number, or it answers None and the cause stands in no slot: a qubit has two entries, not all nodes hang from one root, or a leaf
 -- is missing.
 --
 -- The idea: both go by the least slot that has a fault, and what is least is first.
@@ -16,8 +16,7 @@ use mathlib.Core.List.{List, [], ◌∷◌}
 use borrow.Author.Tests.{lt-ltb}
 use lib.Dec.{ltb}
 use lib.ListN.{length}
-use Rattle.refusal.specs.declared.Answer.{Answer}
-use Rattle.refusal.specs.Numbers.{Paper, bare, answered}
+use Rattle.refusal.specs.Numbers.{Paper, bare, Answer, answered}
 use Rattle.refusal.specs.Search.{Least, found, none, least_below, Pair, pair, no_pair}
 use Rattle.refusal.specs.Table.{◌gives◌, ◌names◌, first_of}
 use Rattle.refusal.proofs.Bools.{or_left, or_right, and_left, and_right}
@@ -29,23 +28,22 @@ use Rattle.trees.specs.Leaves.{rows}
 use Rattle.trees.proofs.Findings.{found_none}
 use Rattle.trees.proofs.Faults.{first_at_fault}
 use Rattle.tree_sizes.specs.Sizes.{outside, reaches, unreadable}
-use Rattle.ternarytree.specs.declared.Place.{Place}
-use Rattle.ternarytree.specs.declared.Place.TheVariants.{Nowhere as nowhere, Slot as slot}
+use Rattle.std.specs.Prelude.{Option, Some, None}
 use Rattle.ternarytree.specs.Building.{tree_checks, Input, flat, tree_of, bad_size, too_short, FlatBuilt, placed, fault_slot, fault_place, Cause, in_slot, second_entry, roots, missing_leaf}
 use Rattle.ternarytree.proofs.Answers.{tested}
 
 -- ---- one outcome is left
 
 -- the place that a search stands for
-abbrev place_of : Least → Place
-place_of (found k) = slot k
-place_of none = nowhere
+abbrev place_of : Least → Option ℕ
+place_of (found k) = Some k
+place_of none = None
 
-of_placed : (p : Place) → place_of (placed p) ≡ p
-of_placed nowhere = refl
-of_placed (slot k) = refl
+of_placed : (p : Option ℕ) → place_of (placed p) ≡ p
+of_placed None = refl
+of_placed (Some k) = refl
 
-pub fault_outcome : (leaves : Bool) (n : ℕ) (es : List ℕ) (fs : List Bool) (p q : Place) → placed p ≡ fault_place leaves n es fs → placed q ≡ fault_place leaves n es fs → p ≡ q
+pub fault_outcome : (leaves : Bool) (n : ℕ) (es : List ℕ) (fs : List Bool) (p q : Option ℕ) → placed p ≡ fault_place leaves n es fs → placed q ≡ fault_place leaves n es fs → p ≡ q
 fault_outcome leaves n es fs p q h k = sym (of_placed p) ∙ ap place_of (one_outcome h k) ∙ of_placed q
 
 -- ---- the slot at fault
@@ -101,7 +99,7 @@ fault_read leaves n es fs k = go (unreadable n es fs)
     go false h = h
 
 -- where find_fault answers a slot, it is the first that has a fault
-pub fault_first : (leaves : Bool) (n : ℕ) (es : List ℕ) (fs : List Bool) (p : Place) (k : ℕ) → placed p ≡ fault_place leaves n es fs → p ≡ slot k → FirstAtFault (flat leaves n es fs) k
+pub fault_first : (leaves : Bool) (n : ℕ) (es : List ℕ) (fs : List Bool) (p : Option ℕ) (k : ℕ) → placed p ≡ fault_place leaves n es fs → p ≡ Some k → FirstAtFault (flat leaves n es fs) k
 fault_first leaves n es fs p k h e = first_fault_slot (flat leaves n es fs) k (fault_read leaves n es fs k (sym h ∙ ap placed e))
 
 -- what building takes past 1 and 2 can be read
@@ -113,14 +111,14 @@ reads i size long =
     let places : ltb (length i.fs) (3 * i.n) ≡ false = or_left _ _ rest in
     rw (or_left (outside i.n) _ size, entries, places, or_right (outside i.q) (reaches i.es i.n 256) (or_right (outside i.n) _ size))
 
-module _ (i : Input) (r : Answer) (xs zs ps vs room : List ℕ) (b : FlatBuilt i r xs zs ps vs room) (p : Place) (h : placed p ≡ fault_place i.leaves i.n i.es i.fs) where
+module _ (i : Input) (r : Answer) (xs zs ps vs room : List ℕ) (b : FlatBuilt i r xs zs ps vs room) (p : Option ℕ) (h : placed p ≡ fault_place i.leaves i.n i.es i.fs) where
   -- building that gets past 1, 2 and 3 is refused by the fault of the slot that find_fault answers
-  pub fault_told : (k : ℕ) → p ≡ slot k → (answered r).number ≢ 1 → (answered r).number ≢ 2 → (answered r).number ≢ 3 → answered r ≡ bare (fault (tree_of i) k)
+  pub fault_told : (k : ℕ) → p ≡ Some k → (answered r).number ≢ 1 → (answered r).number ≢ 2 → (answered r).number ≢ 3 → answered r ≡ bare (fault (tree_of i) k)
   fault_told k e one two three =
       let t = tested i (rw b.told at one) (rw b.told at two) (rw b.told at three) in
       b.told ∙ t.by_tree ∙ slot_refuses (tree_of i) i.leaves k (fault_read i.leaves i.n i.es i.fs k (sym h ∙ ap placed e))
 
-  -- and a refusal by 4 to 9 is by that fault, or find_fault answers nowhere
+  -- and a refusal by 4 to 9 is by that fault, or find_fault answers None
   pub fault_cause : 3 < (answered r).number → (answered r).number < 10 → Cause i.leaves (tree_of i) (placed p) (answered r).number
   fault_cause low high =
       let e = ap (λ (p : Paper). p.number) b.told in

@@ -1,9 +1,10 @@
 -- A flipped column of a row of words is a xor with one digit in its number.
-use Prim.Native.Nat.{ℕ, zero, suc, ◌+◌, ◌*◌, ◌/◌, ◌%◌, ◌^◌, ◌<◌}
+use Prim.Native.Nat.{ℕ, zero, suc, ◌+◌, ◌*◌, ◌/◌, ◌%◌, ◌^◌, ◌<◌, ◌≤◌}
+use native.Mathlib.Nat.{min-eq_left}
 use native.Mathlib.Omega.{arith}
 use mathlib.Core.Path.{◌≡◌, refl, sym, ap, ap₂, ◌∙◌}
-use mathlib.Core.List.{List, [], ◌∷◌}
-use lib.ListN.{length, get_or, set, length-set}
+use mathlib.Core.List.{List, [], ◌∷◌, ◌++◌}
+use lib.ListN.{length, get_or, set, take, drop, replicate, length-set, length-take}
 use lib.Bits.{bit_xor, xor_block, xor_zero_l, xor_zero_r}
 use lib.Pow.{pow-add, pow_pos, pow-lt}
 use Rattle.dense_block.specs.Words.{value, words_of, zeroed}
@@ -52,12 +53,21 @@ length_lettered (suc b) ws j = length_flipped ws j
 
 -- ---- a part of a row as a whole
 
-pub value_zeroed : (ws : List ℕ) → value (zeroed (length ws) ws) ≡ 0
-value_zeroed [] = refl
-value_zeroed (w ∷ ws) = ap (λ (v : ℕ). 0 + 2 ^ 64 * v) (value_zeroed ws)
+value_zero : (n : ℕ) → value (replicate n 0) ≡ 0
+value_zero zero = refl
+value_zero (suc n) = ap (λ (v : ℕ). 0 + 2 ^ 64 * v) (value_zero n)
+
+-- a part at the front that is filled with zeros
+zeroed_is : (n : ℕ) (ws : List ℕ) → n ≤ length ws → replicate n 0 ++ drop n ws ≡ zeroed n ws
+zeroed_is zero ws h = refl
+zeroed_is (suc n) [] h = absurd (omega arith)
+zeroed_is (suc n) (w ∷ ws) h = ap (λ (l : List ℕ). 0 ∷ l) (zeroed_is n ws (omega arith))
+
+pub zeroed_front : (n : ℕ) (ws ys : List ℕ) → n ≤ length ws → ys ≡ replicate (length (take n ws)) 0 → ys ++ drop n ws ≡ zeroed n ws
+zeroed_front n ws ys h e = rw (e, length-take, min-eq_left h) (zeroed_is n ws h)
 
 -- words of a cleared part to which the number v was added
-pub words_are : (xs ys ws : List ℕ) (v : ℕ) → ys ≡ zeroed (length ws) ws → length xs ≡ length ws → Words xs → value xs ≡ bit_xor (value ys) v → xs ≡ words_of (length ws) v
+pub words_are : (xs ys ws : List ℕ) (v : ℕ) → ys ≡ replicate (length ws) 0 → length xs ≡ length ws → Words xs → value xs ≡ bit_xor (value ys) v → xs ≡ words_of (length ws) v
 words_are xs ys ws v ey el w e =
     sym (words_of_value xs w)
-    ∙ ap₂ words_of el (e ∙ ap (λ (l : List ℕ). bit_xor (value l) v) ey ∙ ap (λ (n : ℕ). bit_xor n v) (value_zeroed ws) ∙ xor_zero_l v)
+    ∙ ap₂ words_of el (e ∙ ap (λ (l : List ℕ). bit_xor (value l) v) ey ∙ ap (λ (n : ℕ). bit_xor n v) (value_zero (length ws)) ∙ xor_zero_l v)

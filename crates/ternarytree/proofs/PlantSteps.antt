@@ -7,7 +7,7 @@ use mathlib.Core.Bool.{Bool, ◌&&◌}
 use mathlib.Core.List.{List}
 use borrow.Author.Tests.{lt-ltb, ltb-true, eq-eqb, ne_eqb, eqb-true}
 use lib.Dec.{eqb, ltb}
-use lib.ListN.{length, set, length-set}
+use lib.ListN.{length, set}
 use Rattle.refusal.specs.Search.{least_below}
 use Rattle.refusal.proofs.Bools.{and_left, and_right, is_false}
 use Rattle.refusal.proofs.Searches.{least_none}
@@ -24,19 +24,13 @@ module _ (stands : ℕ → ℕ) (g : Growing stands) (n : ℕ) where
 
   pub record Planting (cs ps ss : List ℕ) (k : ℕ) : Type 0 where
     pub some_left : (0 < k) × (k ≤ n)
-    pub columns_length : length cs ≡ 256
-    pub parents_length : length ps ≡ 256
-    pub children_length : length ss ≡ 768
     pub qubits : (j : ℕ) → j < k → nth cs j ≡ j
     pub ups : (j : ℕ) → j < k → nth ps j ≡ code (up (grown stands n) j)
     pub nodes : Holds (3 * n) (λ s. least_below k (holds s)) ss
 
-  pub planting_start : (cs ps ss : List ℕ) → n ≤ 256 → 0 < n → Blank 256 cs → length cs ≡ 256 → Blank 256 ps → length ps ≡ 256 → Blank 768 ss → length ss ≡ 768 → Planting cs ps ss 1
-  planting_start cs ps ss small h bc lc bp lp bs ls = record {
+  pub planting_start : (cs ps ss : List ℕ) → n ≤ 256 → 0 < n → Blank 256 cs → Blank 256 ps → Blank 768 ss → Planting cs ps ss 1
+  planting_start cs ps ss small h bc bp bs = record {
     some_left = (omega arith, omega arith);
-    columns_length = lc;
-    parents_length = lp;
-    children_length = ls;
     qubits = λ j l. let z : j ≡ 0 = omega arith in bc j (omega arith) ∙ sym z;
     ups = λ j l. let z : j ≡ 0 = omega arith in bp j (omega arith) ∙ sym (ap (λ (i : ℕ). code (up (grown stands n) i)) z ∙ ap code (root_up stands g n));
     nodes = λ s l. bs s (omega arith) ∙ sym (ap code (least_none 1 (holds s) (λ j i. let z : j ≡ 0 = omega arith in rw z)));
@@ -54,21 +48,18 @@ module _ (stands : ℕ → ℕ) (g : Growing stands) (n : ℕ) where
           g.alone j k (ltb-true 0 j (and_left (ltb 0 j) (eqb (stands j) (stands k)) q)) p.some_left.0 (eqb-true (stands j) (stands k) (and_right (ltb 0 j) (eqb (stands j) (stands k)) q)),
         ))))
 
-    next : n ≤ 256 → Planting (set cs k k) (set ps k (stands k + 1)) (set ss (stands k) (k + 1)) (k + 1)
-    next small = record {
+    next : n ≤ 256 → length cs ≡ 256 → length ps ≡ 256 → length ss ≡ 768 → Planting (set cs k k) (set ps k (stands k + 1)) (set ss (stands k) (k + 1)) (k + 1)
+    next small lc lp ls = record {
       some_left = (omega arith, omega arith);
-      columns_length = simp length-set p.columns_length;
-      parents_length = simp length-set p.parents_length;
-      children_length = simp length-set p.children_length;
-      qubits = in_order (λ j. j) cs k k p.qubits (omega (arith, p.columns_length)) refl;
-      ups = in_order (λ j. code (up (grown stands n) j)) ps k (stands k + 1) p.ups (omega (arith, p.parents_length)) (add-one (stands k) ∙ sym (ap code (grown_up stands g n k p.some_left.0 l)));
+      qubits = in_order (λ j. j) cs k k p.qubits (omega arith) refl;
+      ups = in_order (λ j. code (up (grown stands n) j)) ps k (stands k + 1) p.ups (omega arith) (add-one (stands k) ∙ sym (ap code (grown_up stands g n k p.some_left.0 l)));
       nodes =
-          mark (3 * n) holds ss k p.nodes (stands k) slot_low (omega (arith, slot_low, p.children_length)) fresh
+          mark (3 * n) holds ss k p.nodes (stands k) slot_low (omega (arith, slot_low)) fresh
           (rw (lt-ltb 0 k p.some_left.0) (eq-eqb (stands k) (stands k) refl)) (λ q ne. rw (lt-ltb 0 k p.some_left.0) (ne_eqb (stands k) q (λ e. ne (sym e))));
     }
 
-    pub planting_next : (r : ℕ) → r ≡ stands k → n ≤ 256 → Planting (set cs k k) (set ps k (r + 1)) (set ss r (k + 1)) (k + 1)
-    planting_next r e small = rw e (next small)
+    pub planting_next : (r : ℕ) → r ≡ stands k → n ≤ 256 → length cs ≡ 256 → length ps ≡ 256 → length ss ≡ 768 → Planting (set cs k k) (set ps k (r + 1)) (set ss r (k + 1)) (k + 1)
+    planting_next r e small lc lp ls = rw e (next small lc lp ls)
 
   pub planting_end : (cs ps ss : List ℕ) (k : ℕ) → Planting cs ps ss k → n ≤ k → Planted (grown stands n) n cs ps ss
   planting_end cs ps ss k p h =

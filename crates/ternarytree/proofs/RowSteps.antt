@@ -1,7 +1,7 @@
 -- Steps of `add_row`: what is written and what is still to be written make the row of a slot.
 use Prim.Native.Nat.{ℕ, zero, suc, ◌+◌, ◌-◌, ◌/◌, ◌%◌, ◌^◌, ◌<◌, ◌≤◌}
 use native.Mathlib.Omega.{arith}
-use mathlib.Core.Path.{◌≡◌, refl, sym, ◌∙◌}
+use mathlib.Core.Path.{◌≡◌, refl, sym, ap, ◌∙◌}
 use mathlib.Core.Logic.{◌≢◌}
 use mathlib.Core.List.{List}
 use lib.ListN.{length}
@@ -20,6 +20,17 @@ use Rattle.ternarytree.proofs.Flips.{value_flipped}
 -- the row from letter l of node i up, with f steps left
 pub row_up : Tree → ℕ → ℕ → ℕ → Row
 row_up t f i l = join (letter_at l (2 ^ t.qubit i)) (above t f i)
+
+-- the same with f letters left, at most
+abbrev pub row_left : Tree → ℕ → ℕ → ℕ → Row
+row_left t zero i l = identity
+row_left t (suc f) i l = row_up t f i l
+
+pub row_left_more : (t : Tree) (f g i l : ℕ) → f ≡ suc g → row_left t f i l ≡ row_up t g i l
+row_left_more t f g i l e = rw e
+
+pub row_left_none : (t : Tree) (f i l : ℕ) → f ≡ 0 → row_left t f i l ≡ identity
+row_left_none t f i l e = rw e
 
 -- what is written to vx and vz with phase p, and the row r that is still to be written, make the row of slot k
 pub record Left (t : Tree) (k vx vz p : ℕ) (xs zs : List ℕ) (r : Row) : Type 0 where
@@ -107,3 +118,12 @@ above_step t (suc f) i u h g p =
         let r : k % 3 ≡ u % 4 = omega arith in
         rw (s, r)
     go none e = absurd (omega arith)
+
+-- and after one letter more
+pub above_left : (t : Tree) (f g i u : ℕ) → g ≡ f → u ≡ link_of (code (up t i)) → 4 ≤ u → above t f i ≡ row_left t g (u / 4 - 1) (u % 4)
+unfolding above
+above_left t f g i u e h l = rw e (go f)
+  where
+    go : (f : ℕ) → above t f i ≡ row_left t f (u / 4 - 1) (u % 4)
+    go zero = refl
+    go (suc f) = above_step t (suc f) i u h l (λ z. omega arith) ∙ ap (λ (m : ℕ). row_up t m (u / 4 - 1) (u % 4)) (omega arith)

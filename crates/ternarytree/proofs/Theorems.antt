@@ -25,9 +25,8 @@ use borrow.Author.Tests.{ne_eqb, le-ltb, leb-false}
 use lib.Dec.{leb, ltb}
 use lib.ListN.{get_or, drop}
 use lib.Pow.{pow_mono}
-use Rattle.refusal.specs.declared.Answer.{Answer}
-use Rattle.refusal.specs.declared.Answer.TheVariants.{Done}
-use Rattle.refusal.specs.Numbers.{Paper, bare, answered}
+use Rattle.std.specs.Prelude.{Ok}
+use Rattle.refusal.specs.Numbers.{Paper, bare, Answer, answered}
 use Rattle.refusal.specs.Table.{◌gives◌, first_of, short}
 use Rattle.refusal.proofs.Bools.{or_right}
 use Rattle.refusal.proofs.Searches.{none_at}
@@ -152,7 +151,7 @@ named_zero i h l g k = rw (in_range i.n h (omega arith), in_range i.q (omega ari
 
 -- the answer is done, and the rows of the tree and the all-zero vacuum are written
 pub record Grown (i : NamedInput) (r : Answer) (xs zs ps vs room : List ℕ) : Type 0 where
-  pub answer : r ≡ Done
+  pub answer : r ≡ Ok tt
   pub x_parts : xs ≡ laid (words_for i.n) (λ k. ((rows false (named_tree i.tree i.n)).row k).x) (2 * i.n) i.out.xs
   pub z_parts : zs ≡ laid (words_for i.n) (λ k. ((rows false (named_tree i.tree i.n)).row k).z) (2 * i.n) i.out.zs
   pub phases : ps ≡ listed (λ k. ((rows false (named_tree i.tree i.n)).row k).p) (2 * i.n) i.out.ps
@@ -230,12 +229,12 @@ written q m o r xs zs ps vs room f b = record {
   phase = λ k h. rw b.phases (number_listed (λ k. (m.row k).p) (2 * m.n) k (drop (2 * m.n) o.ps) h);
 }
 
-pub flatpack_stored : (i : Input) (r : Answer) (xs zs ps vs room : List ℕ) → FlatBuilt i r xs zs ps vs room → r ≡ Done → Stores (words_for i.q) (rows i.leaves (tree_of i)) xs zs ps
+pub flatpack_stored : (i : Input) (r : Answer) (xs zs ps vs room : List ℕ) → FlatBuilt i r xs zs ps vs room → r ≡ Ok tt → Stores (words_for i.q) (rows i.leaves (tree_of i)) xs zs ps
 flatpack_stored i r xs zs ps vs room b done =
     let e : answer i ≡ bare 0 = sym b.told ∙ ap answered done in
     written i.q (rows i.leaves (tree_of i)) i.out r xs zs ps vs room (flatpack_finished i e) (rw e at b)
 
-pub named_stored : (i : NamedInput) (r : Answer) (xs zs ps vs room : List ℕ) → NamedBuilt i r xs zs ps vs room → r ≡ Done
+pub named_stored : (i : NamedInput) (r : Answer) (xs zs ps vs room : List ℕ) → NamedBuilt i r xs zs ps vs room → r ≡ Ok tt
     → Stores (words_for i.n) (rows false (named_tree i.tree i.n)) xs zs ps
 named_stored i r xs zs ps vs room b done =
     let e : named_answer i ≡ bare 0 = sym b.told ∙ ap answered done in

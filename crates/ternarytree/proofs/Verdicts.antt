@@ -7,8 +7,10 @@ use mathlib.Core.Bool.{Bool, true, false, cond, not, ◌&&◌}
 use mathlib.Core.List.{List, ◌∷◌}
 use borrow.Author.Tests.{lt-ltb, ne_eqb}
 use lib.Dec.{eqb, leb, ltb}
-use Rattle.refusal.specs.declared.Answer.{Answer}
-use Rattle.refusal.specs.Numbers.{Paper, bare, answered}
+use Rattle.refusal.specs.Numbers.{Paper, bare, paper, Answer}
+use Rattle.std.specs.Prelude.{Err}
+use Rattle.refusal.specs.declared.Refusal.{Refusal}
+use Rattle.refusal.proofs.Outcome.{refused_number}
 use Rattle.refusal.specs.Search.{Least, found, none, least_below}
 use Rattle.refusal.specs.Table.{Rule, ◌gives◌, first_of}
 use Rattle.refusal.proofs.Bools.{never}
@@ -125,14 +127,14 @@ unsettled zero new zeros old h g = absurd (omega arith)
 unsettled (suc k) new zeros old h g = rw (ne_eqb (suc k) 13 (λ e. omega arith))
 
 -- what building leaves of a tree that fails a test
-pub tree_refused : (leaves : Bool) (t : Tree) (w k : ℕ) (xs zs qs vs : List ℕ) (r : Answer) → k ≢ 0 → k ≡ verdict leaves t → answered r ≡ bare k
-    → TreeBuilt (first_of (tree_checks leaves t)) w (rows leaves t) xs zs qs vs r xs zs qs vs
-tree_refused leaves t w k xs zs qs vs r ne e h =
-    let no : verdict leaves t ≢ 0 = λ z. ne (e ∙ z) in
+pub tree_refused : (leaves : Bool) (t : Tree) (w : ℕ) (xs zs qs vs : List ℕ) (why : Refusal) → paper why ≡ bare (verdict leaves t)
+    → TreeBuilt (first_of (tree_checks leaves t)) w (rows leaves t) xs zs qs vs (Err why) xs zs qs vs
+tree_refused leaves t w xs zs qs vs why h =
+    let no : verdict leaves t ≢ 0 = λ z. refused_number why (ap (λ (p : Paper). p.number) h ∙ z) in
     let a = verdict_refuses leaves t no in
     let b = verdict_number leaves t no in
     record {
-      told = h ∙ ap bare e ∙ sym a;
+      told = h ∙ sym a;
       x_parts = stays _ _ xs a b;
       z_parts = stays _ _ zs a b;
       phases = stays _ _ qs a b;

@@ -1,19 +1,14 @@
 -- What building a tree answers and leaves: its rows, phases and vacuum, or the first refusal.
-use Rattle.std.specs.Prelude.{ℕ, ◌+◌, ◌*◌, ◌/◌, ◌%◌, ◌≡◌, List, [], ◌∷◌, Bool, true, false, cond, not, ◌&&◌, ◌||◌, eqb, ltb, length, get_or}
-use Rattle.refusal.specs.declared.Answer.{Answer}
-use Rattle.refusal.specs.Numbers.{Paper, answered}
+use Rattle.std.specs.Prelude.{ℕ, ◌+◌, ◌*◌, ◌/◌, ◌%◌, ◌≡◌, List, [], ◌∷◌, Bool, true, false, cond, not, ◌&&◌, ◌||◌, Option, Some, None, eqb, ltb, length, get_or}
+use Rattle.refusal.specs.Numbers.{Paper, Answer, answered}
 use Rattle.refusal.specs.Search.{Least, found, none, least_below}
 use Rattle.refusal.specs.Table.{Rule, ◌gives◌, ◌names◌, first_of, Lent, ◌of◌, short, on_done, past_two}
 use Rattle.algebra.specs.Modes.{Modes, vacuum_rule, commuting_pair}
 use Rattle.algebra.specs.Choices.{dependent}
 use Rattle.dense_block.specs.Words.{words_for, zeroed}
 use Rattle.dense_block.specs.Blocks.{laid, listed}
-use Rattle.ternarytree.specs.declared.Place.{Place}
-use Rattle.ternarytree.specs.declared.Place.TheVariants.{Nowhere as nowhere, Slot as slot}
 use Rattle.trees.specs.Trees.{Tree, twice, fault, first_fault, scattered, missing}
 use Rattle.trees.specs.Leaves.{rows}
-use Rattle.trees.specs.declared.Slot.{Slot}
-use Rattle.trees.specs.declared.Slot.TheVariants.{Blank as blank, Number as number}
 use Rattle.trees.specs.Flatpacks.{Flatpack, flat_tree}
 use Rattle.trees.specs.declared.Named.{Named}
 use Rattle.trees.specs.Named.{named_tree}
@@ -77,8 +72,8 @@ pub record Input : Type 0 where
 abbrev pub given : Bool → ℕ → ℕ → List ℕ → List Bool → List ℕ → List ℕ → List ℕ → List ℕ → List ℕ → Input
 given leaves n q es fs xs zs ps vs room = record { leaves = leaves; n = n; q = q; es = es; fs = fs; out = record { xs = xs; zs = zs; ps = ps; vs = vs; room = room } }
 
-abbrev pub slot_at : List ℕ → List Bool → ℕ → Slot
-slot_at es fs k = cond (get_or fs k false) (number (get_or es (4 * (k / 3) + k % 3 + 1) 0)) blank
+abbrev pub slot_at : List ℕ → List Bool → ℕ → Option ℕ
+slot_at es fs k = cond (get_or fs k false) (Some (get_or es (4 * (k / 3) + k % 3 + 1) 0)) None
 
 -- the flatpack of n entries in two slices, and its tree, with leaves or naive
 abbrev pub pack : ℕ → List ℕ → List Bool → Flatpack
@@ -113,9 +108,10 @@ FlatBuilt i r xs zs ps vs room = Built (answer i) (words_for i.q) (rows i.leaves
 
 -- ---- the first fault of a flatpack's slots
 
-abbrev pub placed : Place → Least
-placed nowhere = none
-placed (slot k) = found k
+-- what find_fault answers
+abbrev pub placed : Option ℕ → Least
+placed None = none
+placed (Some k) = found k
 
 -- entry by entry, X, Y, Z: the first slot that has a fault. 7 comes before the slots, and is no slot's
 unfoldable pub fault_slot : Tree → Least

@@ -1,2 +1,3 @@
 pub mod Building
 pub mod Tables
+pub mod Reading

@@ -1,8 +1,7 @@
 -- For the private functions, and needs no belief: what the tables of the code hold. No public contract, and no theorem on the calls, cites a definition of this file.
-use Rattle.std.specs.Prelude.{ℕ, zero, suc, ◌+◌, ◌*◌, ◌/◌, ◌%◌, ◌^◌, ◌<◌, ◌≤◌, ◌≡◌, List, [], ◌∷◌, Bool, cond, not, ◌&&◌, ◌||◌, ltb, length, get_or, set}
+use Rattle.std.specs.Prelude.{ℕ, zero, suc, ◌+◌, ◌*◌, ◌/◌, ◌%◌, ◌^◌, ◌<◌, ◌≤◌, ◌≡◌, List, [], ◌∷◌, Bool, cond, not, ◌&&◌, ◌||◌, Option, Some, None, ltb, length, get_or, set}
 use Rattle.std.specs.Int.Bits.{bit_xor}
-use Rattle.refusal.specs.declared.Answer.{Answer}
-use Rattle.refusal.specs.Numbers.{Paper, answered}
+use Rattle.refusal.specs.Numbers.{Paper, Answer, answered}
 use Rattle.refusal.specs.Search.{Least, found, none}
 use Rattle.refusal.specs.Table.{◌gives◌, first_of}
 use Rattle.algebra.specs.Modes.{Modes, vacuum_rule}
@@ -13,8 +12,6 @@ use Rattle.trees.specs.declared.Child.TheVariants.{Empty as empty}
 use Rattle.trees.specs.Trees.{Tree, node_of, up, parent_in, leaf_in, twice, first_fault, scattered, missing}
 use Rattle.trees.specs.Paths.{row_at}
 use Rattle.trees.specs.Leaves.{slot_of}
-use Rattle.trees.specs.declared.Slot.{Slot}
-use Rattle.trees.specs.declared.Slot.TheVariants.{Blank as blank, Number as number}
 use Rattle.trees.specs.Flatpacks.{unnamed, named}
 use Rattle.tree_sizes.specs.Sizes.{reaches}
 use Rattle.ternarytree.specs.Building.{settled, tree_checks, flat}
@@ -47,9 +44,9 @@ Blank n l = (j : ℕ) → j < n → nth l j ≡ 0
 -- ---- flatpacks
 
 -- what a slot holds, by a table of the qubits' entries
-abbrev pub child_in : List ℕ → ℕ → Bool → Slot → Child
-child_in l top leaves blank = empty
-child_in l top leaves (number q) = named (uncode (nth l q)) (unnamed leaves top q)
+abbrev pub child_in : List ℕ → ℕ → Bool → Option ℕ → Child
+child_in l top leaves None = empty
+child_in l top leaves (Some q) = named (uncode (nth l q)) (unnamed leaves top q)
 
 -- a node is one of n
 abbrev pub NodeBelow : ℕ → Child → Type 0

@@ -7,115 +7,79 @@ ghost use Rattle.trees.specs.Trees.{Tree};
 ghost use Rattle.trees.specs.Leaves.{slot_of, rows};
 ghost use Rattle.trees.specs.Named.{named_tree};
 ghost use Rattle.tree_sizes.specs.Sizes.{qubit_at};
-ghost use Rattle.ternarytree.specs.Building.{tree_checks, flat};
-ghost use Rattle.ternarytree.specs.Tables.{nth, AtMost, Children, Wired, Slots, verdict, rows_answer, flat_task, Ready, TreeBuilt};
+ghost use Rattle.ternarytree.specs.Building.{tree_checks};
+ghost use Rattle.ternarytree.specs.Tables.{nth, AtMost, Slots, verdict, rows_answer, Ready, TreeBuilt};
+ghost use Rattle.ternarytree.specs.Reading.{read, Filled};
 
+use crate::entries::Entries;
+use crate::tables::Tables;
 use crate::{chains, climbing, planting, reading, writing};
-use refusal::{Answer, Refusal};
+use refusal::Refusal;
 use trees::Named;
 
-// Writes the rows of a tree that passed its tests, from its tables, and the all-zero vacuum. If the rows break the vacuum rule there: 13, and zeros over all.
+// Writes the rows of a tree that passed its tests, from its tables, and the all-zero vacuum. If the rows break the vacuum
+// rule there: 13, and zeros over all.
 pub fn build_rows(
-    parents: &[usize; 256],
+    tables: &Tables,
     columns: &[usize; 256],
-    slots: &[usize; 512],
-    n: usize,
     w: usize,
     x: &mut [u64],
     z: &mut [u64],
     phases: &mut [u8],
     vacuum: &mut [u64],
-) -> Answer
-    requires { (n ≤ 256) × (w ≤ 4) × ((leaves : Bool) × (t : Tree) × Ready leaves t n w parents.now columns.now slots.now) × (2 * n * w ≤ length x.old) × (2 * n * w ≤ length z.old) × (2 * n ≤ length phases.old) }
-    ensures { (leaves : Bool) (t : Tree) → Ready leaves t n w parents.now columns.now slots.now → TreeBuilt (rows_answer (rows leaves t)) w (rows leaves t) x.old z.old phases.old vacuum.old result x.new z.new phases.new vacuum.new }
+) -> Result<(), Refusal>
+    requires { (w ≤ 4)
+        × ((leaves : Bool) × (t : Tree) × Ready leaves t tables.now.n w tables.now.parents columns.now tables.now.slots)
+        × (2 * tables.now.n * w ≤ length x.old) × (2 * tables.now.n * w ≤ length z.old) × (2 * tables.now.n ≤ length phases.old) }
+    ensures { (leaves : Bool) (t : Tree) → Ready leaves t tables.now.n w tables.now.parents columns.now tables.now.slots
+        → TreeBuilt (rows_answer (rows leaves t)) w (rows leaves t) x.old z.old phases.old vacuum.old result x.new z.new phases.new vacuum.new }
 {
-    writing::put_rows(
-        parents,
-        columns,
-        slots,
-        n,
-        w,
-        &mut *x,
-        &mut *z,
-        &mut *phases,
-    );
+    writing::put_rows(tables, columns, w, x, z, phases);
     dense_block::clear(vacuum, w);
-    if writing::vacuum_met(n, w, x, phases) {
-        return Answer::Done;
+    if writing::vacuum_met(tables.n, w, x, phases) {
+        return Ok(());
     }
-    let words = 2 * n * w;
-    dense_block::clear(x, words);
-    dense_block::clear(z, words);
-    crate::clear_phases(phases, 2 * n);
-    Answer::Refused(Refusal::Vacuum)
+    let rows = 2 * tables.n;
+    dense_block::clear(x, rows * w);
+    dense_block::clear(z, rows * w);
+    phases[..rows].fill(0);
+    Err(Refusal::Vacuum)
 }
 
 // The slot of each row's leaf, in the table that has the slots of the leaves that slots name.
-pub fn leaf_slots(leaves: bool, children: &[usize; 768], n: usize, slots: &mut [usize; 512])
-    requires { (n ≤ 256) × AtMost (3 * n) n (nth children.now) × (length slots.old ≡ 512) }
-    ensures { (t : Tree) (ps : List ℕ) → Wired t n (3 * n) ps slots.old → Children t n (3 * n) children.now → verdict leaves t ≡ 0 → Slots (slot_of leaves t) n slots.new }
+pub fn leaf_slots(leaves: bool, children: &[usize; 768], tables: &mut Tables)
+    requires { AtMost (3 * tables.old.n) tables.old.n (nth children.now) }
+    ensures nodes { tables.new.n ≡ tables.old.n }
+    ensures parents { tables.new.parents ≡ tables.old.parents }
+    ensures slots { (t : Tree) → Filled t tables.old.n tables.old.parents children.now tables.old.slots
+        → verdict leaves t ≡ 0 → Slots (slot_of leaves t) tables.old.n tables.new.slots }
 {
     if !leaves {
-        chains::naive_slots(children, n, slots);
+        chains::naive_slots(children, tables);
     }
 }
 
-// Builds a flatpack whose qubits lie in w words: the number of the first test that it fails, or its rows.
+// Builds a flatpack whose qubits lie in w words: the first test that it fails, or its rows.
 pub fn build_flat(
-    leaves: bool,
-    entries: &[usize],
-    filled: &[bool],
-    n: usize,
+    e: Entries,
     w: usize,
     x: &mut [u64],
     z: &mut [u64],
     phases: &mut [u8],
     vacuum: &mut [u64],
-) -> Answer
-    requires { (n ≤ 256) × (w ≤ 4) × (0 < n) × (4 * n ≤ length entries.now) × (3 * n ≤ length filled.now) × ((i : ℕ) → i < n → qubit_at entries.now i / 64 < w) × (2 * n * w ≤ length x.old) × (2 * n * w ≤ length z.old) × (2 * n ≤ length phases.old) }
-    ensures { TreeBuilt (first_of (tree_checks leaves (flat leaves n entries.now filled.now))) w (rows leaves (flat leaves n entries.now filled.now)) x.old z.old phases.old vacuum.old result x.new z.new phases.new vacuum.new }
+) -> Result<(), Refusal>
+    requires { (w ≤ 4) × ((i : ℕ) → i < e.n → qubit_at e.numbers.now i / 64 < w)
+        × (2 * e.n * w ≤ length x.old) × (2 * e.n * w ≤ length z.old) × (2 * e.n ≤ length phases.old) }
+    ensures { TreeBuilt (first_of (tree_checks e.entry.leaves (read e.entry))) w (rows e.entry.leaves (read e.entry))
+        x.old z.old phases.old vacuum.old result x.new z.new phases.new vacuum.new }
 {
-    let mut parents = [0usize; 256];
+    let mut tables = Tables::of(e.n);
     let mut children = [0usize; 768];
-    let mut slots = [0usize; 512];
-    let number = climbing::check_tree(
-        leaves,
-        entries,
-        filled,
-        n,
-        &mut parents,
-        &mut children,
-        &mut slots,
-    );
-    if number != 0 {
-        return crate::refused(number);
-    }
-    leaf_slots(leaves, &children, n, &mut slots);
+    climbing::check_tree(e, &mut tables, &mut children)?;
+    leaf_slots(e.leaves, &children, &mut tables);
     let mut columns = [0usize; 256];
-    reading::copy_qubits(entries, n, &mut columns);
-    build_rows(&parents, &columns, &slots, n, w, x, z, phases, vacuum)
-}
-
-// The same after the test of the qubits.
-pub fn build_within(
-    leaves: bool,
-    entries: &[usize],
-    filled: &[bool],
-    n: usize,
-    q: usize,
-    w: usize,
-    x: &mut [u64],
-    z: &mut [u64],
-    phases: &mut [u8],
-    vacuum: &mut [u64],
-) -> Answer
-    requires { (n ≤ 256) × (0 < n) × (q ≤ 256) × (w ≡ words_for q) × (4 * n ≤ length entries.now) × (3 * n ≤ length filled.now) × (2 * n * w ≤ length x.old) × (2 * n * w ≤ length z.old) × (2 * n ≤ length phases.old) }
-    ensures { TreeBuilt (flat_task leaves n q entries.now filled.now) w (rows leaves (flat leaves n entries.now filled.now)) x.old z.old phases.old vacuum.old result x.new z.new phases.new vacuum.new }
-{
-    if tree_sizes::bad_qubits(entries, n, q) {
-        return Answer::Refused(Refusal::Qubits);
-    }
-    build_flat(leaves, entries, filled, n, w, x, z, phases, vacuum)
+    reading::copy_qubits(e, &mut columns);
+    build_rows(&tables, &columns, w, x, z, phases, vacuum)
 }
 
 // Builds a named tree.
@@ -127,15 +91,15 @@ pub fn build_named(
     z: &mut [u64],
     phases: &mut [u8],
     vacuum: &mut [u64],
-) -> Answer
+) -> Result<(), Refusal>
     requires { (n ≤ 256) × (0 < n) × (w ≡ words_for n) × (2 * n * w ≤ length x.old) × (2 * n * w ≤ length z.old) × (2 * n ≤ length phases.old) }
-    ensures { TreeBuilt (first_of (tree_checks false (named_tree tree n))) w (rows false (named_tree tree n)) x.old z.old phases.old vacuum.old result x.new z.new phases.new vacuum.new }
+    ensures { TreeBuilt (first_of (tree_checks false (named_tree tree n))) w (rows false (named_tree tree n))
+        x.old z.old phases.old vacuum.old result x.new z.new phases.new vacuum.new }
 {
+    let mut tables = Tables::of(n);
     let mut columns = [0usize; 256];
-    let mut parents = [0usize; 256];
     let mut children = [0usize; 768];
-    planting::plant(tree, n, &mut columns, &mut parents, &mut children);
-    let mut slots = [0usize; 512];
-    chains::naive_slots(&children, n, &mut slots);
-    build_rows(&parents, &columns, &slots, n, w, x, z, phases, vacuum)
+    planting::plant(tree, &mut columns, &mut tables, &mut children);
+    chains::naive_slots(&children, &mut tables);
+    build_rows(&tables, &columns, w, x, z, phases, vacuum)
 }

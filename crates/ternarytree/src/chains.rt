@@ -1,9 +1,11 @@
 // Naive trees: the slots of the leaves, at the ends of Z chains.
 
-ghost use Rattle.std.specs.Prelude.{◌≡◌, false, ℕ, ◌+◌, ◌*◌, ◌<◌, ◌≤◌, length};
+ghost use Rattle.std.specs.Prelude.{◌≡◌, false, ◌*◌, ◌<◌, ◌≤◌};
 ghost use Rattle.trees.specs.Trees.{Tree};
 ghost use Rattle.trees.specs.Leaves.{chain_end, slot_of};
 ghost use Rattle.ternarytree.specs.Tables.{nth, AtMost, Children, Slots};
+
+use crate::tables::Tables;
 
 // The end of the Z chain that starts at the node in slot k, or slot k.
 pub fn chain_end(children: &[usize; 768], n: usize, k: usize) -> usize
@@ -15,27 +17,25 @@ pub fn chain_end(children: &[usize; 768], n: usize, k: usize) -> usize
         return k;
     }
     let mut s = 3 * (first - 1) + 2;
-    let mut left = n;
-    while 0 < left {
+    for _ in 0..n {
         let next = children[s];
         if next == 0 {
             return s;
         }
         s = 3 * (next - 1) + 2;
-        left -= 1;
     }
     s
 }
 
 // The slot of each row's leaf.
-pub fn naive_slots(children: &[usize; 768], n: usize, slots: &mut [usize; 512])
-    requires { (n ≤ 256) × AtMost (3 * n) n (nth children.now) × (length slots.old ≡ 512) }
-    ensures { (length slots.new ≡ 512) × ((t : Tree) → Children t n (3 * n) children.now → Slots (slot_of false t) n slots.new) }
+pub fn naive_slots(children: &[usize; 768], tables: &mut Tables)
+    requires { AtMost (3 * tables.old.n) tables.old.n (nth children.now) }
+    ensures nodes { tables.new.n ≡ tables.old.n }
+    ensures parents { tables.new.parents ≡ tables.old.parents }
+    ensures slots { (t : Tree) → Children t tables.old.n (3 * tables.old.n) children.now
+        → Slots (slot_of false t) tables.old.n tables.new.slots }
 {
-    let mut m = 0;
-    while m < 2 * n {
-        let k = chain_end(children, n, 3 * (m / 2) + m % 2);
-        slots[m] = k + 1;
-        m += 1;
+    for m in 0..2 * tables.n {
+        tables.slots[m] = chain_end(children, tables.n, 3 * (m / 2) + m % 2) + 1;
     }
 }

@@ -1,120 +1,112 @@
 // Climbs to the root, and the tests of a whole tree.
 
-ghost use Rattle.std.specs.Prelude.{◌≡◌, List, ℕ, ◌+◌, ◌*◌, ◌<◌, ◌≤◌, length};
+ghost use Rattle.std.specs.Prelude.{◌≡◌, Ok, List, ℕ, ◌+◌, ◌*◌, ◌<◌, ◌≤◌};
+ghost use Rattle.refusal.specs.Numbers.{bare, answered};
 ghost use Rattle.trees.specs.Trees.{Tree, climb, scattered, missing};
 ghost use Rattle.trees.specs.Hanging.{Hangs};
-ghost use Rattle.tree_sizes.specs.Sizes.{qubit_at};
-ghost use Rattle.ternarytree.specs.Building.{flat};
-ghost use Rattle.ternarytree.specs.Tables.{nth, AtMost, Blank, Parents, link_of, Links, Ways, Children, Wired, verdict};
+ghost use Rattle.ternarytree.specs.Tables.{nth, AtMost, Parents, link_of, Links, Ways, Wired, verdict};
+ghost use Rattle.ternarytree.specs.Reading.{read, Fresh, Filled};
 
+use crate::entries::Entries;
 use crate::reading;
+use crate::tables::Tables;
+use refusal::Refusal;
 
-// The way up from each of n nodes: 4 times one more than the node above it, or 0 if there is none, and the letter of the slot that it stands in.
-pub fn link(parents: &[usize; 256], n: usize, links: &mut [usize; 256])
-    requires { (n ≤ 256) × AtMost n (3 * n) (nth parents.now) × (length links.old ≡ 256) }
-    ensures { (i : ℕ) → i < n → nth links.new i ≡ link_of (nth parents.now i) }
-{
-    let mut i = 0;
-    while i < n {
-        let up = parents[i] + 2;
-        links[i] = 4 * (up / 3) + up % 3;
-        i += 1;
-    }
+// The way up from each of n nodes: 4 times one more than the node above it, or 0 if there is none, and the letter of the
+// slot that it stands in.
+#[derive(Drop)]
+pub struct Routes {
+    pub n: usize,
+    pub ways: [usize; 256],
+    ghost some: { (0 < n) × (n ≤ 256) },
+    ghost within: { Ways n ways },
 }
 
-// The node that n steps up from node i lead to, or the first node on the way that has a smaller number than i.
-pub fn climb_up(links: &[usize; 256], n: usize, i: usize) -> usize
-    requires { (n ≤ 256) × (i < n) × Ways n links.now }
-    ensures { (result < n) × ((t : Tree) → Links t n links.now → Hangs t result i × (i ≤ result → result ≡ climb t n i)) }
-{
-    let mut at = i;
-    let mut left = n;
-    while 0 < left {
-        let up = links[at] / 4;
-        if up == 0 {
-            return at;
+impl Routes {
+    pub fn of(tables: &Tables) -> Routes
+        requires { AtMost tables.now.n (3 * tables.now.n) (nth tables.now.parents) }
+        ensures { (result.n ≡ tables.now.n)
+            × ((t : Tree) → Parents t tables.now.n tables.now.parents → Links t result.n result.ways) }
+    {
+        let mut ways = [0usize; 256];
+        for i in 0..tables.n {
+            let up = tables.parents[i] + 2;
+            ways[i] = 4 * (up / 3) + up % 3;
         }
-        at = up - 1;
-        if at < i {
-            return at;
-        }
-        left -= 1;
+        Routes { n: tables.n, ways }
     }
-    at
+
+    // The node that n steps up from node i lead to, or the first node on the way that has a smaller number than i.
+    pub fn climb_up(&self, i: usize) -> usize
+        requires { i < self.now.n }
+        ensures { (result < self.now.n)
+            × ((t : Tree) → Links t self.now.n self.now.ways
+            → Hangs t result i × (i ≤ result → result ≡ climb t self.now.n i)) }
+    {
+        let mut at = i;
+        let mut left = self.n;
+        // Counted by hand: must-fail/endless_parents.edit is about what is left.
+        while 0 < left {
+            let up = self.ways[at] / 4;
+            if up == 0 {
+                return at;
+            }
+            at = up - 1;
+            if at < i {
+                return at;
+            }
+            left -= 1;
+        }
+        at
+    }
 }
 
 // Whether not all nodes hang from one root. A climb need not go past a node that was climbed from before.
-pub fn is_scattered(parents: &[usize; 256], n: usize) -> bool
-    requires { (n ≤ 256) × (0 < n) × AtMost n (3 * n) (nth parents.now) }
-    ensures { (t : Tree) → Parents t n parents.now → result ≡ scattered t }
+pub fn is_scattered(tables: &Tables) -> bool
+    requires { AtMost tables.now.n (3 * tables.now.n) (nth tables.now.parents) }
+    ensures { (t : Tree) → Parents t tables.now.n tables.now.parents → result ≡ scattered t }
 {
-    let mut links = [0usize; 256];
-    link(parents, n, &mut links);
-    let top = climb_up(&links, n, 0);
-    if parents[top] != 0 {
+    let routes = Routes::of(tables);
+    let top = routes.climb_up(0);
+    if tables.parents[top] != 0 {
         return true;
     }
-    let mut i = 0;
-    while i < n {
-        let r = climb_up(&links, n, i);
-        if i <= r {
-            if r != top {
-                return true;
-            }
+    for i in 0..tables.n {
+        let r = routes.climb_up(i);
+        if i <= r && r != top {
+            return true;
         }
-        i += 1;
     }
     false
 }
 
 // Whether a leaf has no slot.
-pub fn any_missing(slots: &[usize; 512], n: usize) -> bool
-    requires { n ≤ 256 }
-    ensures { (t : Tree) (ps : List ℕ) → Wired t n (3 * n) ps slots.now → result ≡ missing t }
+pub fn any_missing(tables: &Tables) -> bool
+    ensures { (t : Tree) (ps : List ℕ) → Wired t tables.now.n (3 * tables.now.n) ps tables.now.slots → result ≡ missing t }
 {
-    let mut m = 0;
-    while m < 2 * n {
-        if slots[m] == 0 {
-            return true;
-        }
-        m += 1;
-    }
-    false
+    tables.slots[..2 * tables.n].contains(&0)
 }
 
-// The number of the first test that a flatpack fails, or 0; then the tables, blank at first, hold the slots of its nodes and leaves and the nodes in its slots.
+// The first test that a flatpack fails; where it fails none, the tables, blank at first, hold the slots of its nodes and
+// leaves and the nodes in its slots.
 pub fn check_tree(
-    leaves: bool,
-    entries: &[usize],
-    filled: &[bool],
-    n: usize,
-    parents: &mut [usize; 256],
+    e: Entries,
+    tables: &mut Tables,
     children: &mut [usize; 768],
-    slots: &mut [usize; 512],
-) -> usize
-    requires { (n ≤ 256) × (0 < n) × (4 * n ≤ length entries.now) × (3 * n ≤ length filled.now) × AtMost n 255 (qubit_at entries.now) × Blank 256 parents.old × (length parents.old ≡ 256) × (length children.old ≡ 768) × Blank 512 slots.old × (length slots.old ≡ 512) }
-    ensures { (result ≡ verdict leaves (flat leaves n entries.now filled.now)) × (result ≡ 0 → Wired (flat leaves n entries.now filled.now) n (3 * n) parents.new slots.new × Children (flat leaves n entries.now filled.now) n (3 * n) children.new × (length slots.new ≡ 512)) }
+) -> Result<(), Refusal>
+    requires { Fresh e.n tables.old }
+    ensures nodes { tables.new.n ≡ e.entry.n }
+    ensures told { answered result ≡ bare (verdict e.entry.leaves (read e.entry)) }
+    ensures filled { result ≡ Ok tt → Filled (read e.entry) e.entry.n tables.new.parents children.new tables.new.slots }
 {
-    let number = reading::wire(
-        leaves,
-        entries,
-        filled,
-        n,
-        &mut *parents,
-        children,
-        &mut *slots,
-    )
-    .number;
-    if number != 0 {
-        return number;
+    if let Err(fault) = reading::wire(e, tables, children) {
+        return Err(fault.why);
     }
-    if is_scattered(parents, n) {
-        return 8;
+    if is_scattered(tables) {
+        return Err(Refusal::Roots);
     }
-    if leaves {
-        if any_missing(slots, n) {
-            return 9;
-        }
+    if e.leaves && any_missing(tables) {
+        return Err(Refusal::Leaf);
     }
-    0
+    Ok(())
 }

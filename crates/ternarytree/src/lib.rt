@@ -5,15 +5,18 @@
 //   find_fault            the first slot of a flatpack that is at fault
 //   from_name             Jordan-Wigner, parity, Bravyi-Kitaev or JKMN
 //
-// Trees, their rows and the theorems on them are in the crate `trees`, the tests of sizes and lengths in the crate `tree_sizes`.
+// Trees, their rows and the theorems on them are in the crate `trees`, the tests of sizes and lengths in the crate
+// `tree_sizes`.
 
 #![tactic(auto)]
 
 mod building; // building.rt: from tables to rows, and from flatpacks and names to tables
 mod chains; // chains.rt: naive trees, the slots of the leaves
 mod climbing; // climbing.rt: climbs to the root, and the tests of a whole tree
+mod entries; // entries.rt: the entries of a flatpack that can be read
 mod planting; // planting.rt: the named trees, into tables
 mod reading; // reading.rt: the entries and slots of a flatpack, into tables
+mod tables; // tables.rt: the tables of a tree
 mod writing; // writing.rt: rows from trees, into packed words
 
 ghost use Rattle.std.specs.Prelude.{◌≡◌, true, false, ◌<◌, ◌≤◌, length};
@@ -21,151 +24,114 @@ ghost use Rattle.refusal.specs.Numbers.{bare, answered};
 ghost use Rattle.dense_block.specs.Words.{zeroed};
 ghost use Rattle.ternarytree.specs.Building.{given, FlatBuilt, placed, fault_place, asked, NamedBuilt};
 
-use refusal::{Answer, Refusal};
-use trees::Named;
+use entries::Entries;
+use refusal::Refusal;
+use tables::Tables;
+use tree_sizes::Lengths;
+use trees::{Flatpack, Named};
 
-// A slot of a flatpack, by its number: slot 3i + l is the X, Y or Z slot of entry i, for l = 0, 1 or 2.
-#[derive(Clone, Copy)]
-pub enum Place {
-    Nowhere,
-    Slot(usize),
-}
-
-// The refusal of a number that a tree's tests give.
-fn refused(number: usize) -> Answer
-    requires { (3 < number) × (number < 10) }
-    ensures { answered result ≡ bare number }
+// The lengths of the slices that are lent for writing.
+fn lengths(x: &[u64], z: &[u64], phases: &[u8], vacuum: &[u64], room: &[u64]) -> Lengths
+    ensures { result ≡ record {
+      x = length x.now;
+      z = length z.now;
+      phases = length phases.now;
+      vacuum = length vacuum.now;
+      room = length room.now;
+    } }
 {
-    if number == 4 {
-        return Answer::Refused(Refusal::Child);
-    }
-    if number == 5 {
-        return Answer::Refused(Refusal::SelfChild);
-    }
-    if number == 6 {
-        return Answer::Refused(Refusal::SecondParent);
-    }
-    if number == 7 {
-        return Answer::Refused(Refusal::SecondEntry);
-    }
-    if number == 8 {
-        return Answer::Refused(Refusal::Roots);
-    }
-    Answer::Refused(Refusal::Leaf)
-}
-
-// The first n phases made zero.
-fn clear_phases(phases: &mut [u8], n: usize)
-    requires { n ≤ length phases.old }
-    ensures { phases.new ≡ zeroed n phases.old }
-{
-    let mut i = 0;
-    while i < n {
-        phases[i] = 0;
-        i += 1;
+    Lengths {
+        x: x.len(),
+        z: z.len(),
+        phases: phases.len(),
+        vacuum: vacuum.len(),
+        room: room.len(),
     }
 }
 
 // Builds a flatpack, with leaves or naive.
 fn from_entries(
     leaves: bool,
-    modes: usize,
+    flat: Flatpack,
     qubits: usize,
-    entries: &[usize],
-    filled: &[bool],
     x: &mut [u64],
     z: &mut [u64],
     phases: &mut [u8],
     vacuum: &mut [u64],
     room: &mut [u64],
-) -> Answer
-    ensures { FlatBuilt (given leaves modes qubits entries.now filled.now x.old z.old phases.old vacuum.old room.old) result x.new z.new phases.new vacuum.new room.new }
+) -> Result<(), Refusal>
+    ensures { let f = flat.entry in
+        FlatBuilt (given leaves f.modes qubits f.entries.now f.filled.now x.old z.old phases.old vacuum.old room.old)
+        result x.new z.new phases.new vacuum.new room.new }
 {
-    if tree_sizes::bad_size(entries, modes, qubits) {
-        return Answer::Refused(Refusal::Size);
+    if tree_sizes::bad_size(flat, qubits) {
+        return Err(Refusal::Size);
     }
     let w = dense_block::words_for(qubits);
-    if tree_sizes::flat_short(
-        modes,
-        w,
-        entries.len(),
-        filled.len(),
-        x.len(),
-        z.len(),
-        phases.len(),
-        vacuum.len(),
-        room.len(),
-    ) {
-        return Answer::Refused(Refusal::Short);
+    if tree_sizes::flat_short(flat, w, lengths(x, z, phases, vacuum, room)) {
+        return Err(Refusal::Short);
     }
-    dense_block::clear(room, 4 * modes * w);
-    building::build_within(
-        leaves, entries, filled, modes, qubits, w, x, z, phases, vacuum,
-    )
+    dense_block::clear(room, 4 * flat.modes * w);
+    if tree_sizes::bad_qubits(flat, qubits) {
+        return Err(Refusal::Qubits);
+    }
+    building::build_flat(Entries::of(leaves, flat), w, x, z, phases, vacuum)
 }
 
-// Builds a flatpack with leaves. Entry i, of `modes`, is the numbers 4i (its qubit), 4i + 1, 4i + 2 and 4i + 3 (its X, Y and Z slots) of entries; a slot is empty
-// if its place 3i, 3i + 1 or 3i + 2 of filled is false. Done: the X and Z parts are in the first 2·modes·w words of x and z, w being ceil(qubits / 64), the phases
-// in the first 2·modes of phases, and the first w words of vacuum are zero. Refused: the outputs are as they were, but 13 leaves zeros over them. The first
-// 4·modes·w words of room are zero after every call that got past 1 and 2.
+// Builds a flatpack with leaves. Done: the X and Z parts are in the first 2·modes·w words of x and z, w being
+// ceil(qubits / 64), the phases in the first 2·modes of phases, and the first w words of vacuum are zero. Refused: the
+// outputs are as they were, but 13 leaves zeros over them. The first 4·modes·w words of room are zero after every call
+// that got past 1 and 2. The outputs are separate, since of a struct of `&mut` slices each clause would speak of borrows.
 pub fn from_flatpack(
-    modes: usize,
+    flat: Flatpack,
     qubits: usize,
-    entries: &[usize],
-    filled: &[bool],
     x: &mut [u64],
     z: &mut [u64],
     phases: &mut [u8],
     vacuum: &mut [u64],
     room: &mut [u64],
-) -> Answer
-    ensures { FlatBuilt (given true modes qubits entries.now filled.now x.old z.old phases.old vacuum.old room.old) result x.new z.new phases.new vacuum.new room.new }
+) -> Result<(), Refusal>
+    ensures { let f = flat.entry in
+        FlatBuilt (given true f.modes qubits f.entries.now f.filled.now x.old z.old phases.old vacuum.old room.old)
+        result x.new z.new phases.new vacuum.new room.new }
 {
-    from_entries(
-        true, modes, qubits, entries, filled, x, z, phases, vacuum, room,
-    )
+    from_entries(true, flat, qubits, x, z, phases, vacuum, room)
 }
 
 // The same, naive: a number that is no entry's qubit is ignored, and the leaves are at the ends of Z chains.
 pub fn from_flatpack_naive(
-    modes: usize,
+    flat: Flatpack,
     qubits: usize,
-    entries: &[usize],
-    filled: &[bool],
     x: &mut [u64],
     z: &mut [u64],
     phases: &mut [u8],
     vacuum: &mut [u64],
     room: &mut [u64],
-) -> Answer
-    ensures { FlatBuilt (given false modes qubits entries.now filled.now x.old z.old phases.old vacuum.old room.old) result x.new z.new phases.new vacuum.new room.new }
+) -> Result<(), Refusal>
+    ensures { let f = flat.entry in
+        FlatBuilt (given false f.modes qubits f.entries.now f.filled.now x.old z.old phases.old vacuum.old room.old)
+        result x.new z.new phases.new vacuum.new room.new }
 {
-    from_entries(
-        false, modes, qubits, entries, filled, x, z, phases, vacuum, room,
-    )
+    from_entries(false, flat, qubits, x, z, phases, vacuum, room)
 }
 
-// The first slot of a flatpack that is at fault (4, 5, 6 or 9), with leaves or naive; entries and filled are as from_flatpack takes them. Nowhere if no slot is, if
-// a qubit has two entries, or if the slots cannot be read. It is not told the number of qubits, so a flatpack that building refuses by 3 can have such a slot.
-pub fn find_fault(leaves: bool, modes: usize, entries: &[usize], filled: &[bool]) -> Place
-    ensures { placed result ≡ fault_place leaves modes entries.now filled.now }
+// The first slot of a flatpack that is at fault (4, 5, 6 or 9), with leaves or naive: slot 3i + l is the X, Y or Z slot of
+// entry i, for l = 0, 1 or 2. None if no slot is, if a qubit has two entries, or if the slots cannot be read. It is not
+// told the number of qubits, so a flatpack that building refuses by 3 can have such a slot.
+pub fn find_fault(leaves: bool, flat: Flatpack) -> Option<usize>
+    ensures { placed result ≡ fault_place leaves flat.entry.modes flat.entry.entries.now flat.entry.filled.now }
 {
-    if tree_sizes::unreadable(modes, entries, filled) {
-        return Place::Nowhere;
+    if tree_sizes::unreadable(flat) {
+        return None;
     }
-    let mut parents = [0usize; 256];
-    let mut children = [0usize; 768];
-    let mut slots = [0usize; 512];
-    reading::wire(
-        leaves,
-        entries,
-        filled,
-        modes,
-        &mut parents,
-        &mut children,
-        &mut slots,
-    )
-    .place
+    match reading::wire(
+        Entries::of(leaves, flat),
+        &mut Tables::of(flat.modes),
+        &mut [0; 768],
+    ) {
+        Ok(()) => None,
+        Err(fault) => fault.slot,
+    }
 }
 
 // Builds a named tree. Its rows keep `modes` columns however many qubits are asked for, and the lengths count `modes` columns; else as from_flatpack.
@@ -178,27 +144,20 @@ pub fn from_name(
     phases: &mut [u8],
     vacuum: &mut [u64],
     room: &mut [u64],
-) -> Answer
-    ensures { NamedBuilt (asked tree modes qubits x.old z.old phases.old vacuum.old room.old) result x.new z.new phases.new vacuum.new room.new }
+) -> Result<(), Refusal>
+    ensures { NamedBuilt (asked tree modes qubits x.old z.old phases.old vacuum.old room.old)
+        result x.new z.new phases.new vacuum.new room.new }
 {
     if tree_sizes::either_outside(modes, qubits) {
-        return Answer::Refused(Refusal::Size);
+        return Err(Refusal::Size);
     }
     let w = dense_block::words_for(modes);
-    if tree_sizes::outputs_short(
-        modes,
-        w,
-        x.len(),
-        z.len(),
-        phases.len(),
-        vacuum.len(),
-        room.len(),
-    ) {
-        return Answer::Refused(Refusal::Short);
+    if tree_sizes::outputs_short(modes, w, lengths(x, z, phases, vacuum, room)) {
+        return Err(Refusal::Short);
     }
     dense_block::clear(room, 4 * modes * w);
     if qubits < modes {
-        return Answer::Refused(Refusal::Qubits);
+        return Err(Refusal::Qubits);
     }
     building::build_named(tree, modes, w, x, z, phases, vacuum)
 }

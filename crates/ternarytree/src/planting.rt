@@ -1,24 +1,28 @@
 // The named trees, into tables.
 
-ghost use Rattle.std.specs.Prelude.{◌≡◌, ℕ, ◌+◌, ◌*◌, ◌<◌, ◌≤◌, length};
+ghost use Rattle.std.specs.Prelude.{◌≡◌, ◌<◌};
 ghost use Rattle.trees.specs.declared.Named.TheVariants.{BravyiKitaev as bravyiKitaev};
 ghost use Rattle.trees.specs.Named.{under, named_tree};
 ghost use Rattle.ternarytree.specs.Tables.{Blank, Planted};
+ghost use Rattle.ternarytree.specs.Reading.{Fresh};
 
+use crate::tables::Tables;
 use trees::Named;
 
-// The slot of node k in the Bravyi-Kitaev tree: node 1 under 0 by X, then k under k / 2, by X if k is even and by Z if it is odd.
+// The slot of node k in the Bravyi-Kitaev tree: node 1 under 0 by X, then k under k / 2, by X if k is even and by Z if it
+// is odd.
+#[tactic(auto, unfolding(trees::specs::Named::under))]
 pub fn bravyi_kitaev(k: usize) -> usize
     requires { (0 < k) × (k < 256) }
     ensures { result ≡ under bravyiKitaev k }
 {
     if k < 2 {
-        return 0;
+        0
+    } else if k % 2 == 0 {
+        3 * (k / 2)
+    } else {
+        3 * (k / 2) + 2
     }
-    if k % 2 == 0 {
-        return 3 * (k / 2);
-    }
-    3 * (k / 2) + 2
 }
 
 // The slot of node k.
@@ -38,20 +42,18 @@ pub fn slot_under(tree: Named, k: usize) -> usize
 // The columns of the nodes, the slots that hold them and the nodes in the slots, in tables that are zero at first.
 pub fn plant(
     tree: Named,
-    n: usize,
     columns: &mut [usize; 256],
-    parents: &mut [usize; 256],
+    tables: &mut Tables,
     children: &mut [usize; 768],
 )
-    requires { (n ≤ 256) × (0 < n) × Blank 256 columns.old × (length columns.old ≡ 256) × Blank 256 parents.old × (length parents.old ≡ 256) × Blank 768 children.old × (length children.old ≡ 768) }
-    ensures { Planted (named_tree tree n) n columns.new parents.new children.new }
+    requires { Fresh tables.old.n tables.old × Blank 256 columns.old × Blank 768 children.old }
+    ensures { (tables.new.n ≡ tables.old.n)
+        × Planted (named_tree tree tables.old.n) tables.old.n columns.new tables.new.parents children.new }
 {
-    let mut k = 1;
-    while k < n {
+    for k in 1..tables.n {
         let s = slot_under(tree, k);
         columns[k] = k;
-        parents[k] = s + 1;
+        tables.parents[k] = s + 1;
         children[s] = k + 1;
-        k += 1;
     }
 }

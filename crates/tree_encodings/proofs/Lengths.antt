@@ -6,8 +6,7 @@ use mathlib.Core.Path.{◌≡◌, ap, ◌∙◌}
 use mathlib.Core.List.{List, [], ◌∷◌}
 use mathlib.Core.Bool.{false}
 use lib.ListN.{length, drop, length-append}
-use Rattle.refusal.specs.declared.Answer.{Answer}
-use Rattle.refusal.specs.Numbers.{bare}
+use Rattle.refusal.specs.Numbers.{Answer, bare}
 use Rattle.refusal.specs.Table.{Lent, ◌of◌, short}
 use Rattle.refusal.proofs.Rooms.{Hold, hold, long_enough}
 use Rattle.algebra.specs.Modes.{Modes}

@@ -22,9 +22,8 @@ use borrow.Author.Tests.{le-ltb, ne_eqb}
 use lib.Dec.{ltb}
 use lib.ListN.{length, take}
 use lib.Pow.{pow_pos}
-use Rattle.refusal.specs.declared.Answer.{Answer}
-use Rattle.refusal.specs.declared.Answer.TheVariants.{Done as done}
-use Rattle.refusal.specs.Numbers.{Paper, bare, answered}
+use Rattle.std.specs.Prelude.{Ok}
+use Rattle.refusal.specs.Numbers.{Paper, bare, Answer, answered}
 use Rattle.refusal.specs.Table.{Rule, ◌gives◌, first_of, short}
 use Rattle.refusal.proofs.Bools.{or_left, or_right}
 use Rattle.refusal.proofs.Outcome.{answered_injective}
@@ -58,7 +57,7 @@ module _ (s : Set) (vs : List ℕ) (sound : Sound s vs) (long : vacuum_short s v
   sound_checked room enough =
       rw (sound.size, check_long s vs long room enough, sound.good, commuting_none (modes s) sound.rows, anticommuting_independent (modes s) sound.rows, sound.vacuum)
 
-  check_done : (room : List ℕ) (r : Answer) (after : List ℕ) → check_room s ≤ length room → RowsChecked s vs room r after → r ≡ done
+  check_done : (room : List ℕ) (r : Answer) (after : List ℕ) → check_room s ≤ length room → RowsChecked s vs room r after → r ≡ Ok tt
   check_done room r after enough c = answered_injective (c.answer ∙ sound_checked room enough)
 
   -- demand 3 at the calls
@@ -151,7 +150,7 @@ module _ {m : Modes} {q : ℕ} {o : tree.Outputs} {r : Answer} {xs zs ps vs room
   stored_checked : (work : List ℕ) → 4 * m.n * words_for q ≤ length work → rows_checked kept vs work ≡ bare 0
   stored_checked = sound_checked kept vs stored_sound stored_long
 
-  stored_check_done : (work : List ℕ) (a : Answer) (after : List ℕ) → 4 * m.n * words_for q ≤ length work → RowsChecked kept vs work a after → a ≡ done
+  stored_check_done : (work : List ℕ) (a : Answer) (after : List ℕ) → 4 * m.n * words_for q ≤ length work → RowsChecked kept vs work a after → a ≡ Ok tt
   stored_check_done = check_done kept vs stored_sound stored_long
 
   stored_encodes : FaithfulCalls kept vs
@@ -159,7 +158,7 @@ module _ {m : Modes} {q : ℕ} {o : tree.Outputs} {r : Answer} {xs zs ps vs room
 
 -- ---- flatpacks, with leaves or naive
 
-module _ (i : tree.Input) (r : Answer) (xs zs ps vs room : List ℕ) (b : tree.FlatBuilt i r xs zs ps vs room) (fine : r ≡ done) where
+module _ (i : tree.Input) (r : Answer) (xs zs ps vs room : List ℕ) (b : tree.FlatBuilt i r xs zs ps vs room) (fine : r ≡ Ok tt) where
   flatpack_complete : Complete (rows i.leaves (tree.tree_of i)) i.q i.out r xs zs ps vs room
   unfolding tree.bad_size tree.too_short
   flatpack_complete =
@@ -186,7 +185,7 @@ module _ (i : tree.Input) (r : Answer) (xs zs ps vs room : List ℕ) (b : tree.F
   pub flatpack_checked : (work : List ℕ) → 4 * i.n * words_for i.q ≤ length work → rows_checked (given i.n i.q xs zs ps) vs work ≡ bare 0
   flatpack_checked = stored_checked flatpack_complete
 
-  pub flatpack_check_done : (work : List ℕ) (a : Answer) (after : List ℕ) → 4 * i.n * words_for i.q ≤ length work → RowsChecked (given i.n i.q xs zs ps) vs work a after → a ≡ done
+  pub flatpack_check_done : (work : List ℕ) (a : Answer) (after : List ℕ) → 4 * i.n * words_for i.q ≤ length work → RowsChecked (given i.n i.q xs zs ps) vs work a after → a ≡ Ok tt
   flatpack_check_done = stored_check_done flatpack_complete
 
   pub flatpack_encodes : FaithfulCalls (given i.n i.q xs zs ps) vs
@@ -206,7 +205,7 @@ named_tested i e =
     go false true rest h = absurd (omega arith)
     go false false rest h = (refl, refl)
 
-module _ (i : tree.NamedInput) (r : Answer) (xs zs ps vs room : List ℕ) (b : tree.NamedBuilt i r xs zs ps vs room) (fine : r ≡ done) where
+module _ (i : tree.NamedInput) (r : Answer) (xs zs ps vs room : List ℕ) (b : tree.NamedBuilt i r xs zs ps vs room) (fine : r ≡ Ok tt) where
   named_complete : Complete (rows false (named_tree i.tree i.n)) i.n i.out r xs zs ps vs room
   named_complete =
       let e : tree.named_answer i ≡ bare 0 = sym b.told ∙ ap answered fine in
@@ -231,7 +230,7 @@ module _ (i : tree.NamedInput) (r : Answer) (xs zs ps vs room : List ℕ) (b : t
   pub named_checked : (work : List ℕ) → 4 * i.n * words_for i.n ≤ length work → rows_checked (given i.n i.n xs zs ps) vs work ≡ bare 0
   named_checked = stored_checked named_complete
 
-  pub named_check_done : (work : List ℕ) (a : Answer) (after : List ℕ) → 4 * i.n * words_for i.n ≤ length work → RowsChecked (given i.n i.n xs zs ps) vs work a after → a ≡ done
+  pub named_check_done : (work : List ℕ) (a : Answer) (after : List ℕ) → 4 * i.n * words_for i.n ≤ length work → RowsChecked (given i.n i.n xs zs ps) vs work a after → a ≡ Ok tt
   named_check_done = stored_check_done named_complete
 
   pub named_encodes : FaithfulCalls (given i.n i.n xs zs ps) vs

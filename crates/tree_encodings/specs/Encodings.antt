@@ -1,11 +1,11 @@
 -- What the calls on a row set and its vacuum make of what building a tree left in the slices. `Encodes` is a call of try_encode, `Decodes` one of decode_zbasis_state, with the
 -- slices as they were lent and are left. Needed lengths: ceil(n/64) words for a list, ceil(q/64) for a string.
-use Rattle.std.specs.Prelude.{◌≡◌, ◌↔◌, List, false, ℕ, ◌≤◌, length}
-use Rattle.refusal.specs.declared.Answer.{Answer}
-use Rattle.refusal.specs.declared.Answer.TheVariants.{Refused}
+use Rattle.std.specs.Prelude.{◌≡◌, ◌↔◌, List, false, ℕ, ◌≤◌, length, Result, Err}
+use Rattle.refusal.specs.declared.Refusal.{Refusal}
 use Rattle.refusal.specs.declared.Refusal.TheVariants.{Undecodable}
+use Rattle.refusal.specs.Numbers.{Answer}
 use Rattle.dense_block.specs.Words.{words_for}
-use Rattle.majorana.specs.declared.Encoded.{Encoded}
+use Rattle.pauli.specs.declared.Phase.{Phase}
 use Rattle.majorana.specs.Sets.{Set, width, bits}
 use Rattle.majorana.specs.Codes.{encode_short, Encodes, decode_short, Decodes}
 use Rattle.majorana.specs.Accepted.{Listed, Stringed, EncodedTo, DecodedTo, EncodingCall}
@@ -30,20 +30,20 @@ pub record LongEnough (s : Set) (vs : List ℕ) : Type 0 where
 
 pub record FaithfulCalls (s : Set) (vs : List ℕ) : Type 0 where
   -- every list of n bits encodes
-  pub encodes : (ls out : List ℕ) (r : Encoded) (after : List ℕ)
+  pub encodes : (ls out : List ℕ) (r : Result Phase Refusal) (after : List ℕ)
       → Listed s ls → words_for s.n ≤ length ls → width s ≤ length out → Encodes s vs ls out r after
       → EncodedTo s vs ls out r after
   -- no two get the same string
-  pub apart : (ls ks out pout : List ℕ) (r t : Encoded) (after pafter : List ℕ)
+  pub apart : (ls ks out pout : List ℕ) (r t : Result Phase Refusal) (after pafter : List ℕ)
       → Listed s ls → words_for s.n ≤ length ls → width s ≤ length out → Encodes s vs ls out r after
       → Listed s ks → words_for s.n ≤ length ks → width s ≤ length pout → Encodes s vs ks pout t pafter
       → bits s.q after ≡ bits s.q pafter → bits s.n ls ≡ bits s.n ks
   -- decoding gives the list back
-  pub back : (ls out dout : List ℕ) (r : Encoded) (after : List ℕ) (t : Answer) (list : List ℕ)
+  pub back : (ls out dout : List ℕ) (r : Result Phase Refusal) (after : List ℕ) (t : Answer) (list : List ℕ)
       → Listed s ls → words_for s.n ≤ length ls → width s ≤ length out → Encodes s vs ls out r after
       → words_for s.n ≤ length dout → Decodes s vs after dout t list
       → DecodedTo s ls dout t list
   -- a string of q bits is refused exactly if no call of try_encode leaves it
   pub refuses : (ts out : List ℕ) (r : Answer) (after : List ℕ)
       → Stringed s ts → width s ≤ length ts → words_for s.n ≤ length out → Decodes s vs ts out r after
-      → (r ≡ Refused Undecodable) ↔ (EncodingCall s vs ts → ⊥)
+      → (r ≡ Err Undecodable) ↔ (EncodingCall s vs ts → ⊥)

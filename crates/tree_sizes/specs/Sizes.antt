@@ -1,11 +1,12 @@
 -- The sizes and lengths that building a tree refuses by 1, 2 and 3. The entries es of a flatpack are four numbers each, the qubit and the X, Y and Z slots.
-use Rattle.std.specs.Prelude.{ℕ, ◌*◌, List, [], ◌∷◌, Bool, ◌||◌, eqb, leb, ltb, length, get_or}
+use Rattle.std.specs.Prelude.{ℕ, ◌*◌, List, [], ◌∷◌, Bool, ◌||◌, leb, ltb, length, get_or}
 use Rattle.refusal.specs.Search.{some_below}
+use Rattle.refusal.specs.Table as table
 use Rattle.refusal.specs.Table.{Lent, ◌of◌, short}
 
--- 0 or above 256
+-- 0 or above 256. Proofs of crates above unfold it, so it is no other name of that of `refusal`
 unfoldable pub outside : ℕ → Bool
-outside k = eqb k 0 || ltb 256 k
+outside k = table.outside k
 
 -- the qubit of entry i; 0 past the end
 abbrev pub qubit_at : List ℕ → ℕ → ℕ

@@ -2,168 +2,123 @@
 //
 //   either_outside              whether one of two numbers is 0 or above 256
 //   bad_size, bad_qubits        whether 1 or 3 refuses a flatpack
+//   Lengths                     the lengths of the slices that are lent for writing
 //   outputs_short, flat_short   whether 2 refuses the lengths of a named tree's slices or of a flatpack's
 //   unreadable                  whether the slots of a flatpack cannot be read
-//
-// Entry i of a flatpack is the numbers 4i (its qubit), 4i + 1, 4i + 2 and 4i + 3 (its X, Y and Z slots) of entries.
 
 #![tactic(auto)]
 
-ghost use Rattle.std.specs.Prelude.{◌≡◌, ◌∷◌, ◌||◌, ltb, ◌*◌, min};
-ghost use Rattle.refusal.specs.Table.{◌of◌};
+ghost use Rattle.std.specs.Prelude.{◌≡◌, ◌∷◌, [], ◌||◌, ltb, ◌*◌, ◌≤◌, length};
+ghost use Rattle.refusal.specs.Table.{◌of◌, short};
 ghost use Rattle.tree_sizes.specs.Sizes.{outside, qubit_at, reaches, outputs_lent, many_or_short, unreadable};
 
-// 0 or above 256.
-fn outside(k: usize) -> bool
-    ensures { result ≡ outside k }
-{
-    if k == 0 {
-        return true;
-    }
-    256 < k
-}
+use refusal::Lent;
+use trees::Flatpack;
 
-// Whether one of two numbers is.
+// Whether one of two numbers is 0 or above 256.
+#[tactic(auto, unfolding(crate::specs::Sizes::outside))]
 pub fn either_outside(n: usize, q: usize) -> bool
     ensures { result ≡ (outside n || outside q) }
 {
-    if outside(n) {
-        return true;
-    }
-    outside(q)
+    refusal::outside(n) || refusal::outside(q)
 }
 
 // The qubit of entry i; 0 past the end.
 fn qubit_at(entries: &[usize], i: usize) -> usize
     ensures { result ≡ qubit_at entries.now i }
 {
-    if i <= entries.len() / 4 {
-        let k = 4 * i;
-        if k < entries.len() {
-            return entries[k];
-        }
+    if i <= entries.len() / 4 && 4 * i < entries.len() {
+        entries[4 * i]
+    } else {
+        0
     }
-    0
 }
 
-fn least(a: usize, b: usize) -> usize
-    ensures { result ≡ min a b }
-{
-    if a < b { a } else { b }
-}
-
-// Whether the qubit of one of n entries is at or above b. Of the entries past the end one is looked at: their qubits are all 0.
+// Whether the qubit of one of n entries is at or above b.
 fn reaches(entries: &[usize], n: usize, b: usize) -> bool
     ensures { result ≡ reaches entries.now n b }
 {
-    let m = least(n, entries.len() / 4 + 1);
-    let mut i = 0;
-    while i < m {
+    // Of the entries past the end one is looked at: their qubits are all 0.
+    let m = n.min(entries.len() / 4 + 1);
+    for i in 0..m {
         if b <= qubit_at(entries, i) {
             return true;
         }
-        i += 1;
     }
     false
 }
 
 // 1: modes or qubits 0 or above 256, or a flatpack qubit above 255.
-pub fn bad_size(entries: &[usize], n: usize, q: usize) -> bool
-    ensures { result ≡ (outside n || (outside q || reaches entries.now n 256)) }
+pub fn bad_size(flat: Flatpack, q: usize) -> bool
+    ensures { let n = flat.entry.modes in
+        result ≡ (outside n || (outside q || reaches flat.entry.entries.now n 256)) }
 {
-    if outside(n) {
-        return true;
-    }
-    if outside(q) {
-        return true;
-    }
-    reaches(entries, n, 256)
+    either_outside(flat.modes, q) || reaches(flat.entries, flat.modes, 256)
 }
 
 // 3: qubits fewer than nodes, or a flatpack qubit not below qubits.
-pub fn bad_qubits(entries: &[usize], n: usize, q: usize) -> bool
-    ensures { result ≡ (ltb q n || reaches entries.now n q) }
+pub fn bad_qubits(flat: Flatpack, q: usize) -> bool
+    ensures { let n = flat.entry.modes in result ≡ (ltb q n || reaches flat.entry.entries.now n q) }
 {
-    if q < n {
-        return true;
-    }
-    reaches(entries, n, q)
+    q < flat.modes || reaches(flat.entries, flat.modes, q)
 }
 
-// Whether one of the lengths of the outputs is below what n modes need, with w words to a part of a row; more than 256 modes, or more than 4 words a row, are too
-// much for slices of any length.
-pub fn outputs_short(
-    n: usize,
-    w: usize,
-    x: usize,
-    z: usize,
-    phases: usize,
-    vacuum: usize,
-    room: usize,
-) -> bool
-    ensures { result ≡ many_or_short n w (outputs_lent n w x z phases vacuum room) }
-{
-    if 256 < n {
-        return true;
-    }
-    if 4 < w {
-        return true;
-    }
-    let rows = 2 * n;
-    let size = rows * w;
-    if x < size {
-        return true;
-    }
-    if z < size {
-        return true;
-    }
-    if phases < rows {
-        return true;
-    }
-    if vacuum < w {
-        return true;
-    }
-    room < 4 * n * w
+// The lengths of the slices lent for the X parts, the Z parts, the phases and the vacuum, and as work room.
+#[derive(Clone, Copy)]
+pub struct Lengths {
+    pub x: usize,
+    pub z: usize,
+    pub phases: usize,
+    pub vacuum: usize,
+    pub room: usize,
 }
 
-// The same for a flatpack, whose entries and places come before the outputs.
-pub fn flat_short(
-    n: usize,
-    w: usize,
-    entries: usize,
-    filled: usize,
-    x: usize,
-    z: usize,
-    phases: usize,
-    vacuum: usize,
-    room: usize,
-) -> bool
-    ensures { result ≡ many_or_short n w ((4 * n of entries) ∷ (3 * n of filled) ∷ outputs_lent n w x z phases vacuum room) }
+// Whether one of the lengths of the outputs is below what n modes need, with w words to a part of a row; more than 256
+// modes, or more than 4 words a row, are too much for slices of any length.
+#[tactic(auto, unfolding(crate::specs::Sizes::many_or_short))]
+pub fn outputs_short(n: usize, w: usize, out: Lengths) -> bool
+    ensures { result ≡ many_or_short n w (outputs_lent n w out.x out.z out.phases out.vacuum out.room) }
 {
-    if 256 < n {
-        return true;
-    }
-    if entries < 4 * n {
-        return true;
-    }
-    if filled < 3 * n {
-        return true;
-    }
-    outputs_short(n, w, x, z, phases, vacuum, room)
+    256 < n
+        || 4 < w
+        || refusal::any_short(&[
+            Lent(2 * n * w, out.x),
+            Lent(2 * n * w, out.z),
+            Lent(2 * n, out.phases),
+            Lent(w, out.vacuum),
+            Lent(4 * n * w, out.room),
+        ])
 }
 
-// Whether the slots of n entries cannot be read: n is 0 or above 256, a slice is too short, or a qubit is above 255.
-pub fn unreadable(n: usize, entries: &[usize], filled: &[bool]) -> bool
-    ensures { result ≡ unreadable n entries.now filled.now }
+// Whether a flatpack's entries or places are too few for at most 256 modes.
+fn entries_short(flat: Flatpack) -> bool
+    requires { flat.modes ≤ 256 }
+    ensures { let n = flat.entry.modes in
+        result ≡ short ((4 * n of length flat.entry.entries.now) ∷ (3 * n of length flat.entry.filled.now) ∷ []) }
 {
-    if outside(n) {
-        return true;
-    }
-    if entries.len() < 4 * n {
-        return true;
-    }
-    if filled.len() < 3 * n {
-        return true;
-    }
-    reaches(entries, n, 256)
+    refusal::any_short(&[
+        Lent(4 * flat.modes, flat.entries.len()),
+        Lent(3 * flat.modes, flat.filled.len()),
+    ])
+}
+
+// The same as outputs_short for a flatpack, whose entries and places come before the outputs.
+#[tactic(auto, unfolding(crate::specs::Sizes::many_or_short))]
+pub fn flat_short(flat: Flatpack, w: usize, out: Lengths) -> bool
+    ensures { let n = flat.entry.modes in
+        result ≡ many_or_short n w (
+        (4 * n of length flat.entry.entries.now)
+        ∷ (3 * n of length flat.entry.filled.now)
+        ∷ outputs_lent n w out.x out.z out.phases out.vacuum out.room) }
+{
+    256 < flat.modes || entries_short(flat) || outputs_short(flat.modes, w, out)
+}
+
+// Whether the slots of a flatpack cannot be read: it has 0 or above 256 modes, a slice is too short, or a qubit is above
+// 255.
+#[tactic(auto, unfolding(crate::specs::Sizes::unreadable, crate::specs::Sizes::outside))]
+pub fn unreadable(flat: Flatpack) -> bool
+    ensures { result ≡ unreadable flat.entry.modes flat.entry.entries.now flat.entry.filled.now }
+{
+    refusal::outside(flat.modes) || entries_short(flat) || reaches(flat.entries, flat.modes, 256)
 }

@@ -1,5 +1,6 @@
 -- What the slots of a flatpack hold: a node there is one of the entries. And how far its qubits go.
 use Prim.Native.Nat.{ℕ, zero, suc, ◌-◌, ◌/◌, ◌%◌, ◌<◌, ◌≤◌}
+use Rattle.std.specs.Prelude.{Option, Some, None}
 use native.Mathlib.Decide.{dec_lt}
 use native.Mathlib.Omega.{arith}
 use mathlib.Core.Path.{◌≡◌, refl, sym, ◌∙◌}
@@ -8,7 +9,7 @@ use lib.Dec.{eqb, leb}
 use Rattle.refusal.specs.Search.{Least, found, none}
 use Rattle.refusal.proofs.Searches.{least_found}
 use Rattle.trees.specs.Trees.{Child, xLeaf, yLeaf, low, node_of, Closed}
-use Rattle.trees.specs.Flatpacks.{Slot, blank, number, Flatpack, entry_in, past, leaf_numbered, unnamed, named, child_of, flat_tree}
+use Rattle.trees.specs.Flatpacks.{Flatpack, entry_in, past, leaf_numbered, unnamed, named, child_of, flat_tree}
 
 -- what is no entry's qubit is no node
 unnamed_free : (leaves : Bool) (top q : ℕ) → node_of (unnamed leaves top q) ≡ none
@@ -29,9 +30,9 @@ pub flatpack_closed : (leaves : Bool) (c : Flatpack) → Closed (flat_tree leave
 unfolding Closed child_of entry_in
 flatpack_closed leaves c k j h = go (c.slot k) h
   where
-    go : (s : Slot) → node_of (child_of leaves c s) ≡ found j → j < c.n
-    go blank h = let z : ◌≡◌ {A = ℕ} 0 1 = cc in absurd (omega arith)
-    go (number q) h = (least_found c.n (λ i. eqb (c.qubit i) q) j (sym (node_of_entry _ _ (unnamed_free leaves (past c.qubit c.n) q)) ∙ h)).low
+    go : (s : Option ℕ) → node_of (child_of leaves c s) ≡ found j → j < c.n
+    go None h = let z : ◌≡◌ {A = ℕ} 0 1 = cc in absurd (omega arith)
+    go (Some q) h = (least_found c.n (λ i. eqb (c.qubit i) q) j (sym (node_of_entry _ _ (unnamed_free leaves (past c.qubit c.n) q)) ∙ h)).low
 
 -- ---- one more than the largest qubit
 

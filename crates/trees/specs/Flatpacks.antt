@@ -1,15 +1,13 @@
 -- Flatpacks, read with leaves or naive.
-use Rattle.std.specs.Prelude.{ℕ, zero, suc, ◌+◌, ◌-◌, ◌/◌, ◌%◌, max, Bool, cond, eqb, leb}
+use Rattle.std.specs.Prelude.{ℕ, zero, suc, ◌+◌, ◌-◌, ◌/◌, ◌%◌, max, Bool, cond, Option, Some, None, eqb, leb}
 use Rattle.refusal.specs.Search.{Least, found, none, least_below}
 use Rattle.trees.specs.Trees.{Child, empty, node, xLeaf, yLeaf, low, Tree}
-pub use Rattle.trees.specs.declared.Slot.{Slot}
-pub use Rattle.trees.specs.declared.Slot.TheVariants.{Blank as blank, Number as number}
 
--- n entries; entry i has a qubit number and the slots 3i (X), 3i + 1 (Y) and 3i + 2 (Z), each empty or a number
+-- n entries; entry i has a qubit number and the slots 3i (X), 3i + 1 (Y) and 3i + 2 (Z), each empty (None) or a number
 pub record Flatpack : Type 0 where
   pub n : ℕ
   pub qubit : ℕ → ℕ
-  pub slot : ℕ → Slot
+  pub slot : ℕ → Option ℕ
 
 -- the entry of qubit q
 unfoldable pub entry_in : ℕ → (ℕ → ℕ) → ℕ → Least
@@ -33,9 +31,9 @@ abbrev pub named : Least → Child → Child
 named (found j) other = node j
 named none other = other
 
-unfoldable pub child_of : Bool → Flatpack → Slot → Child
-child_of leaves c blank = empty
-child_of leaves c (number q) = named (entry_in c.n c.qubit q) (unnamed leaves (past c.qubit c.n) q)
+unfoldable pub child_of : Bool → Flatpack → Option ℕ → Child
+child_of leaves c None = empty
+child_of leaves c (Some q) = named (entry_in c.n c.qubit q) (unnamed leaves (past c.qubit c.n) q)
 
 abbrev pub flat_tree : Bool → Flatpack → Tree
 flat_tree leaves c = record { n = c.n; qubit = c.qubit; child = λ k. child_of leaves c (c.slot k) }

@@ -1,5 +1,6 @@
-// Ternary trees: what they are, what refuses them and what their rows are, in specs/; the theorems on them, in proofs/. There is no code here but what a slot holds, as it is in a flatpack and in
-// a tree, and the names of trees. The code is `ternarytree`'s.
+// Ternary trees: what they are, what refuses them and what their rows are, in specs/; the theorems on them, in proofs/.
+// There is no code here but what a slot of a tree holds, a flatpack as it is lent, and the names of trees. The code is
+// `ternarytree`'s.
 
 #![tactic(auto)]
 
@@ -14,11 +15,13 @@ pub enum Child {
     Low,
 }
 
-// A slot of a flatpack.
+// A flatpack as it is lent, of any lengths. Entry i, of `modes`, is the numbers 4i (its qubit), 4i + 1, 4i + 2 and
+// 4i + 3 (its X, Y and Z slots) of entries; a slot is empty if its place 3i, 3i + 1 or 3i + 2 of filled is false.
 #[derive(Clone, Copy)]
-pub enum Slot {
-    Blank,
-    Number(usize),
+pub struct Flatpack<'a> {
+    pub modes: usize,
+    pub entries: &'a [usize],
+    pub filled: &'a [bool],
 }
 
 // The named trees.

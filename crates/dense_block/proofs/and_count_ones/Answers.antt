@@ -7,7 +7,7 @@ pub loop-i-preserved : goal.loop-i-preserved
 loop-i-preserved c =
     let l = c.loop-i in
     let a = c.args in
-    omega (arith, common_step a.a.now a.b.now l.i (λ i. (c.shared_slice_known-1.given i).fits) (λ i. (c.shared_slice_known-2-1.given i).fits))
+    omega (arith, common_step a.a.now a.b.now l.i (λ i. (c.type_inv.a i).fits) (λ i. (c.type_inv.b i).fits))
 
 pub returns : goal.returns
 returns c =

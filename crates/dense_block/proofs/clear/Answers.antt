@@ -1,18 +1,21 @@
--- `dense_block::clear` meets its contract: after i turns the first i words are 0.
-use Rattle.std.proofs.Common.{◌≡◌, ℕ, min, List, length, set, ap, ◌∙◌, arith, length-set}
+-- `dense_block::clear` meets its contract: the words passed are 0.
+use Rattle.std.proofs.Common.{◌≡◌, ℕ, List, ◌++◌, take, drop, set, ap, ◌∙◌, arith, length-take-le}
 use Rattle.dense_block.specs.Words.{zeroed}
-use Rattle.dense_block.proofs.Clears.{zeroed_step, zeroed_min}
+use Rattle.dense_block.proofs.Clears.{zeroed_step, zeroed_take, zeroed_min}
 use Rattle.dense_block.proofs.clear.Goals as goal
 
-pub loop-i-preserved : goal.loop-i-preserved
-loop-i-preserved c =
-    let l = c.loop-i in
-    let s₀ = c.args.s.now in
-    (omega arith, length-set l.s l.i 0 ∙ l.invariant.1, ap (λ (x : List ℕ). set x l.i 0) l.invariant.2 ∙ zeroed_step s₀ l.i)
+pub loop-w-preserved : goal.loop-w-preserved
+loop-w-preserved c =
+    let l = c.loop-w in
+    ap (λ (x : List ℕ). set x l.w-index 0) l.invariant ∙ zeroed_step (take c.min-m.result c.args.s.now) l.w-index
 
 pub returns : goal.returns
 returns c =
-    let l = c.loop-i in
-    let a = c.args in
-    let e : l.i ≡ min a.n (length a.s.now) = omega arith in
-    l.invariant.2 ∙ ap (λ (k : ℕ). zeroed k a.s.now) e ∙ zeroed_min a.n a.s.now
+    let ws = c.args.s.now in
+    let m = c.min-m.result in
+    let l = c.loop-w in
+    let all : l.w-index ≡ m = omega (arith, length-take-le m ws (omega arith)) in
+    ap (λ (xs : List ℕ). xs ++ drop m ws) (l.invariant ∙ ap (λ (k : ℕ). zeroed k (take m ws)) all)
+    ∙ zeroed_take m ws (omega arith)
+    ∙ ap (λ (k : ℕ). zeroed k ws) c.min-m.ensures
+    ∙ zeroed_min c.args.n ws

@@ -1,16 +1,14 @@
 -- `dense_block::copy` meets its contract: the words passed and the copy of the rest make the whole copy.
-use Rattle.std.proofs.Common.{ℕ, sym, ◌∙◌, arith, length-set}
+use Rattle.std.proofs.Common.{ℕ, sym, ◌∙◌, arith}
 use Rattle.dense_block.proofs.Alongs.{along_step, along_end}
 use Rattle.dense_block.proofs.copy.Goals as goal
 
 pub loop-i-preserved : goal.loop-i-preserved
 loop-i-preserved c =
     let l = c.loop-i in
-    let src = c.args.src.now in
-    (omega arith, length-set l.dst l.i _ ∙ l.invariant.1, along_step (λ (d s : ℕ). s) l.dst src l.i (omega arith) (omega arith) ∙ l.invariant.2)
+    along_step (λ (d s : ℕ). s) l.dst c.args.src.now l.i (omega arith) (omega arith) ∙ l.invariant
 
 pub returns : goal.returns
 returns c =
     let l = c.loop-i in
-    let src = c.args.src.now in
-    sym (along_end (λ (d s : ℕ). s) l.dst src l.i (omega arith)) ∙ l.invariant.2
+    sym (along_end (λ (d s : ℕ). s) l.dst c.args.src.now l.i (omega arith)) ∙ l.invariant

@@ -8,11 +8,15 @@ pub loop-at-preserved : goal.loop-at-preserved
 loop-at-preserved c =
     let l = c.loop-at in
     let a = c.args in
-    (omega arith, fold_next a.a.now a.b.now l.at l.sum _ (omega arith) (omega arith) l.invariant.1)
+    fold_next a.a.now a.b.now l.at l.sum _ (omega arith) (omega arith) l.invariant
 
 pub returns : goal.returns
 returns c =
     let l = c.loop-at in
     let a = c.args in
-    let e = fold_done a.a.now a.b.now l.at l.sum _ (omega arith) l.invariant.1 in
-    record { word = e; parity = ap (λ (k : ℕ). ones k % 2) e ∙ folded_dot a.a.now a.b.now (λ i. (c.shared_slice_known-1.given i).fits) (λ i. (c.shared_slice_known-2-1.given i).fits) }
+    let e = fold_done a.a.now a.b.now l.at l.sum _ (omega arith) l.invariant in record {
+      word = e;
+      parity = ap (λ (k : ℕ). ones k % 2) e
+          ∙ folded_dot a.a.now a.b.now (λ i. (c.type_inv.a i).fits)
+          (λ i. (c.type_inv.b i).fits);
+    }

@@ -13,4 +13,4 @@ returns c =
     ap (λ (x : ℕ). eqb x 1)
     (and_mask (c.word.result / 2 ^ (a.j % 64)) 1
     ∙ ap (λ (x : ℕ). bit x (a.j % 64)) c.word.ensures
-    ∙ sym (bit_value a.s.now a.j (λ i. (c.shared_slice_known-1.given i).fits)))
+    ∙ sym (bit_value a.s.now a.j (λ i. (c.type_inv.s i).fits)))

@@ -1,37 +1,25 @@
--- `dense_block::stray` meets its contract: where no word so far is set, the rest decides.
-use Rattle.std.proofs.Common.{ℕ, ◌/◌, ◌%◌, ◌^◌, sym, ap, ◌∙◌, arith}
-use Rattle.dense_block.proofs.Strays.{strays_here, strays_above, some_word, no_word, no_more}
+-- `dense_block::stray` meets its contract: the rest of the word of column q, or a word above it.
+use Rattle.std.proofs.Common.{◌+◌, ◌/◌, not, eqb, length, drop, sym, ap, ◌∙◌, arith, rules, tests, le-ltb, ne_eqb}
+use Rattle.std.proofs.lemmas.Iterator.{YieldsList-from_slice}
+use Rattle.std.proofs.lemmas.Iterator.Search.{any_from_yields_List}
+use Rattle.std.proofs.lemmas.Slice.{between_to_end}
+use Rattle.dense_block.proofs.Strays.{ends_below, strays_here, strays_above}
 use Rattle.dense_block.proofs.stray.Goals as goal
 
-pub returns-then-word-q-ne0 : goal.returns-then-word-q-ne0
-returns-then-word-q-ne0 c =
-    let a = c.args in
-    strays_here a.s.now a.q (λ i. (c.shared_slice_known-1.given i).fits)
-    (λ e. omega (arith, c.if-word-q-ne0.true, ap (λ (x : ℕ). x / 2 ^ (a.q % 64)) c.word.ensures))
+pub returns-then-s-w-ne0 : goal.returns-then-s-w-ne0
+returns-then-s-w-ne0 c =
+    ap not (ne_eqb _ 0 c.if-s-w-ne0.true)
+    ∙ strays_here c.args.s.now c.args.q (λ i. (c.type_inv.s i).fits) (λ e. omega (arith, e, c.if-s-w-ne0.true))
 
-pub overflow_add-i : goal.overflow_add-i
-overflow_add-i c = omega arith
-
-pub loop-i-init : goal.loop-i-init
-loop-i-init c =
-    let a = c.args in
-    strays_above a.s.now a.q (λ i. (c.shared_slice_known-1.given i).fits)
-    (omega (arith, c.if-word-q-ne0.false, ap (λ (x : ℕ). x / 2 ^ (a.q % 64)) c.word.ensures))
-
-pub returns-then-s-i-ne0 : goal.returns-then-s-i-ne0
-returns-then-s-i-ne0 c =
-    let l = c.loop-i in
+pub returns-else-s-w-ne0 : goal.returns-else-s-w-ne0
+returns-else-s-w-ne0 c =
     let s = c.args.s.now in
-    sym (l.invariant ∙ some_word s l.i c.if-s-i-ne0.true)
+    let w = c.args.q / 64 in
+    let rest = c.iter.ensures.rest ∙ between_to_end s (w + 1) (length s) (omega arith) in
+    let any = any_from_yields_List (λ k. not (eqb k 0)) _ _ c.any.result c.any.ensures.ran (YieldsList-from_slice (drop (w + 1) s) rest) (λ x b q k. search (rules, tests)) in
+    any ∙ strays_above s c.args.q (λ i. (c.type_inv.s i).fits) (omega arith)
 
-pub loop-i-preserved : goal.loop-i-preserved
-loop-i-preserved c =
-    let l = c.loop-i in
+pub returns-else-w-s : goal.returns-else-w-s
+returns-else-w-s c =
     let s = c.args.s.now in
-    l.invariant ∙ no_word s l.i c.if-s-i-ne0.false
-
-pub returns : goal.returns
-returns c =
-    let l = c.loop-i in
-    let s = c.args.s.now in
-    sym (l.invariant ∙ no_more s l.i c.loop-i-test.false)
+    le-ltb (c.args.q / 64) (length s) c.if-w-s.false ∙ sym (ends_below s c.args.q (λ i. (c.type_inv.s i).fits) c.if-w-s.false)

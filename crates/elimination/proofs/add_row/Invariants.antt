@@ -1,10 +1,6 @@
 -- `elimination::add_row` meets its contract: after i turns i words are added.
-use Prim.Native.Nat.{◌-◌, ◌≤◌}
 use Rattle.elimination.specs.Steps.{Added}
 use Rattle.elimination.proofs.add_row.Given as goal
 
 abbrev pub invariant-loop-i : goal.invariant-loop-i
-invariant-loop-i l = (l.i ≤ l.width) × Added l.from l.to l.i l.initial.room l.room
-
-abbrev pub decreases-loop-i : goal.decreases-loop-i
-decreases-loop-i l = l.width - l.i
+invariant-loop-i l = Added l.from l.to l.i l.initial.room l.room

@@ -1,57 +1,39 @@
 -- `elimination::eliminate` meets its contract: the rows passed are settled.
 use Prim.Native.Nat.{◌*◌}
 use native.Mathlib.Omega.{arith}
-use mathlib.Core.Path.{◌≡◌, ap, ◌∙◌}
-use lib.ListN.{length}
+use mathlib.Core.Path.{◌≡◌}
 use borrow.Author.Rules.{rules}
-use Rattle.dense_block.proofs.Terms.{length_term}
 use Rattle.elimination.specs.Eliminated.{Lowest}
 use Rattle.elimination.specs.Rooms.{row_at}
-use Rattle.elimination.proofs.RoomLaws.{eliminating_start, eliminating_sweep, eliminating_none, row_before}
+use Rattle.elimination.proofs.RoomLaws.{eliminating_start, eliminating_sweep, eliminating_none}
 use Rattle.elimination.proofs.eliminate.Goals as goal
-use Rattle.elimination.proofs.eliminate.Goals.{After-row, then-p-words, else-p-words}
-
--- row s has `width` words
-row_length : (c : After-row) → length c.row.result.now ≡ c.args.width
-row_length c =
-    let a = c.args in
-    let l = c.loop-s in
-    ap length c.row.ensures
-    ∙ length_term a.width l.room l.s (omega (arith, row_before l.s a.rows a.width (omega arith), l.invariant.1.same.long))
+use Rattle.elimination.proofs.eliminate.Goals.{in-Some, in_default}
 
 pub loop-s-init : goal.loop-s-init
 loop-s-init c =
     let a = c.args in
-    (omega arith, eliminating_start (64 * a.words) a.rows a.width a.room.now (λ i. (c.type_inv.room i).fits))
-
-pub row-requires : goal.row-requires
-row-requires c =
-    let a = c.args in
-    let l = c.loop-s in
-    omega (arith, row_before l.s a.rows a.width (omega arith), l.invariant.1.same.long)
-
-pub lowest-p-requires : goal.lowest-p-requires
-lowest-p-requires c = omega (arith, row_length (goal.at.lowest-p-requires c).After-row)
+    eliminating_start (64 * a.words) a.rows a.width a.room.now (λ i. (c.type_inv.room i).fits)
 
 pub loop-s-preserved : goal.loop-s-preserved
 unfolding row_at
 loop-s-preserved c =
     let l = c.loop-s in
     let a = c.args in
-    let found : Lowest (64 * a.words) (row_at a.width l.room l.s) c.lowest-p.result = rw c.row.ensures at c.lowest-p.ensures in (
-      omega arith,
-      elim c.if-p-words.branch [
-        | then-p-words w ↦ rw w.room-is
-            (eliminating_sweep (64 * a.words) a.rows a.width a.room.now l.s l.room l.invariant.1 c.lowest-p.result found w.sweep.new.room
-            (omega arith) w.if-p-words.true (search rules) w.sweep.ensures.0 w.sweep.ensures.1)
-        | else-p-words w ↦ rw w.room-is
-            (eliminating_none (64 * a.words) a.rows a.width a.room.now l.s l.room l.invariant.1 c.lowest-p.result found w.if-p-words.false)
-      ],
-    )
+    let n = 64 * a.words in
+    elim c.match-lowest.branch [
+      | in-Some w ↦
+          let found : Lowest n (row_at a.width l.room l.s) w.in-Some.p = rw c.row.ensures at w.in-Some.ensures.1 in
+          rw w.room-is
+          (eliminating_sweep n a.rows a.width a.room.now l.s l.room l.invariant w.in-Some.p found w.sweep.new.room
+          (omega arith) w.in-Some.ensures.0 (search rules) w.sweep.ensures.0 w.sweep.ensures.1)
+      | in_default w ↦
+          let none : Lowest n (row_at a.width l.room l.s) n = rw c.row.ensures at w.in_default.ensures in
+          rw w.room-is (eliminating_none n a.rows a.width a.room.now l.s l.room l.invariant n none (omega arith))
+    ]
 
 pub returns : goal.returns
 returns c =
     let l = c.loop-s in
     let a = c.args in
     let e : l.s ≡ a.rows = omega arith in
-    (rw e at l.invariant.1.done, l.invariant.1.same)
+    (rw e at l.invariant.done, l.invariant.same)

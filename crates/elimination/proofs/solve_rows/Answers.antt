@@ -4,12 +4,11 @@ use native.Mathlib.Omega.{arith}
 use mathlib.Core.Path.{◌≡◌, refl, sym, ◌∙◌}
 use mathlib.Core.Bool.{true}
 use lib.ListN.{length}
-use lib.Seq.{length-take-le}
 use borrow.Author.Rules.{rules}
 use Rattle.elimination.specs.Rooms.{fits}
 use Rattle.elimination.proofs.Answers.{Fitting, fitting, solve_wide, solve_room_lem, solve_string, solve_none, solve_found}
 use Rattle.elimination.proofs.solve_rows.Goals as goal
-use Rattle.elimination.proofs.solve_rows.Goals.{Else-not-fits}
+use Rattle.elimination.proofs.solve_rows.Goals.{Else-not-fits, then-width-gt4-via-then-width-gt4, then-width-gt4-via-else-width-gt4+then-not-fits, then-width-gt4-via-else-width-gt4+else-not-fits+then-v-width}
 
 passes : (c : Else-not-fits) → fits 256 5 c.args.rows (c.args.width + 1) (length c.args.room.now) ≡ true
 passes c = sym c.fits.ensures ∙ c.if-not-fits.false
@@ -20,17 +19,13 @@ holds c = fitting 256 5 _ _ _ (passes c)
 pub returns-then-width-gt4 : goal.returns-then-width-gt4
 returns-then-width-gt4 c =
     let a = c.args in
-    solve_wide a.rows a.width a.room.now a.v.now c.if-width-gt4.true
-
-pub returns-then-not-fits : goal.returns-then-not-fits
-returns-then-not-fits c =
-    let a = c.args in
-    solve_room_lem a.rows a.width a.room.now a.v.now (sym c.fits.ensures ∙ c.if-not-fits.true)
-
-pub returns-then-v-width : goal.returns-then-v-width
-returns-then-v-width c =
-    let a = c.args in
-    solve_string a.rows a.width a.room.now a.v.now (sym c.fits.ensures ∙ c.if-not-fits.false) c.if-v-width.true
+    elim c.then-width-gt4.branch [
+      | then-width-gt4-via-then-width-gt4 w ↦ solve_wide a.rows a.width a.room.now a.v.now w.if-width-gt4.true
+      | then-width-gt4-via-else-width-gt4+then-not-fits w ↦
+          solve_room_lem a.rows a.width a.room.now a.v.now (sym w.fits.ensures ∙ w.if-not-fits.true)
+      | then-width-gt4-via-else-width-gt4+else-not-fits+then-v-width w ↦
+          solve_string a.rows a.width a.room.now a.v.now (sym w.fits.ensures ∙ w.if-not-fits.false) w.if-v-width.true
+    ]
 
 pub eliminate-requires : goal.eliminate-requires
 eliminate-requires c =
@@ -47,9 +42,6 @@ pub overflow_mul-rows : goal.overflow_mul-rows
 overflow_mul-rows c =
     let h = holds (goal.at.overflow_mul-rows c).Else-not-fits in
     record { fits = omega arith }
-
-pub slice_bounds-copy-end-then-found : goal.slice_bounds-copy-end-then-found
-slice_bounds-copy-end-then-found c = sym (length-take-le _ _ c.if-v-width.false)
 
 pub returns-then-found : goal.returns-then-found
 returns-then-found c =

@@ -1,10 +1,9 @@
 -- `elimination::substitute` meets its contract: the rows passed are met.
-use Prim.Native.Nat.{◌+◌, ◌-◌, ◌*◌, ◌≤◌, ◌<◌}
+use Prim.Native.Nat.{◌-◌, ◌*◌}
 use native.Mathlib.Omega.{arith}
-use mathlib.Core.Path.{◌≡◌, sym, ap, ◌∙◌}
+use mathlib.Core.Path.{◌≡◌, refl, sym, ap, ◌∙◌}
 use lib.ListN.{length}
 use borrow.Author.Rules.{rules}
-use Rattle.dense_block.proofs.Terms.{row_within, length_term}
 use Rattle.elimination.proofs.BackLaws.{length_put, substituting_start, substituting_end, substituting_even, substituting_set, substituting_unmet}
 use Rattle.elimination.proofs.substitute.Goals as goal
 
@@ -14,29 +13,12 @@ loop-k-init c =
     substituting_start a.rows a.width a.room.now c.set_index.new.s a.u.now c.requires.3 c.requires.1
     (search rules) c.set_index.ensures (λ i. (c.type_inv.u i).fits)
 
-pub row-t-requires : goal.row-t-requires
-row-t-requires c =
-    let inside : 0 < c.loop-k.k → (c.loop-k.k - 1) * (c.args.width + 1) + (c.args.width + 1) ≤ length c.args.room.now =
-    λ h. let a = c.args in
-    row_within (c.loop-k.k - 1) a.rows (a.width + 1) (length a.room.now) (omega (arith, c.loop-k.invariant.within)) c.requires.0
-    in
-    inside (omega arith)
-
-pub lowest-p-requires : goal.lowest-p-requires
-lowest-p-requires c =
-    let inside : 0 < c.loop-k.k → (c.loop-k.k - 1) * (c.args.width + 1) + (c.args.width + 1) ≤ length c.args.room.now =
-    λ h. let a = c.args in
-    row_within (c.loop-k.k - 1) a.rows (a.width + 1) (length a.room.now) (omega (arith, c.loop-k.invariant.within)) c.requires.0
-    in
-    let a = c.args in
-    omega (arith, ap length c.row-t.ensures ∙ length_term (a.width + 1) a.room.now (c.loop-k.k - 1) (inside (omega arith)))
-
-pub returns-then-p-width : goal.returns-then-p-width
-returns-then-p-width c =
+pub returns-in_default : goal.returns-in_default
+returns-in_default c =
     let a = c.args in
     let row = c.row-t in (
       substituting_unmet a.rows a.width a.room.now _ c.loop-k.k c.loop-k.u c.loop-k.invariant (omega arith) _ row.ensures
-          (sym c.parity_and.ensures ∙ c.if-parity_and.true) c.lowest-p.result c.lowest-p.ensures c.if-p-width.true,
+          (sym c.parity_and.ensures ∙ c.if-parity_and.true) (64 * a.width) c.in_default.ensures refl,
       c.loop-k.invariant.words,
     )
 
@@ -46,8 +28,8 @@ loop-k-preserved-then-parity_and c =
     let a = c.args in
     let row = c.row-t in
     substituting_set a.rows a.width a.room.now _ c.loop-k.k c.loop-k.u c.loop-k.invariant (omega arith) _ row.ensures
-    (sym c.parity_and.ensures ∙ c.if-parity_and.true) c.lowest-p.result c.lowest-p.ensures
-    c.set_index-then-parity_and.new.s c.if-p-width.false (c.requires.4 (c.loop-k.k - 1) (omega (arith, c.loop-k.invariant.within)))
+    (sym c.parity_and.ensures ∙ c.if-parity_and.true) c.in-Some.p c.in-Some.ensures.1
+    c.set_index-then-parity_and.new.s (omega (arith, c.in-Some.ensures.0)) (c.requires.4 (c.loop-k.k - 1) (omega (arith, c.loop-k.invariant.within)))
     (omega (arith, first_length, c.requires.1)) c.set_index-then-parity_and.ensures (λ i. (c.type_inv.u i).fits)
 
 pub loop-k-preserved : goal.loop-k-preserved

@@ -4,6 +4,3 @@ use Rattle.elimination.proofs.substitute.Given as goal
 
 abbrev pub invariant-loop-k : goal.invariant-loop-k
 invariant-loop-k l = Substituting l.rows l.width l.k l.room l.initial.u l.u
-
-abbrev pub decreases-loop-k : goal.decreases-loop-k
-decreases-loop-k l = l.k

@@ -1,10 +1,7 @@
 -- `elimination::sweep` meets its contract: the rows passed are swept.
-use Prim.Native.Nat.{◌-◌, ◌<◌, ◌≤◌}
+use Prim.Native.Nat.{◌<◌}
 use Rattle.elimination.proofs.RoomLaws.{Sweeping}
 use Rattle.elimination.proofs.sweep.Given as goal
 
 abbrev pub invariant-loop-r : goal.invariant-loop-r
-invariant-loop-r l = (l.s < l.r) × (l.r ≤ l.rows) × Sweeping l.rows l.width l.s l.p l.r l.initial.room l.room
-
-abbrev pub decreases-loop-r : goal.decreases-loop-r
-decreases-loop-r l = l.rows - l.r
+invariant-loop-r l = (l.s < l.r) × Sweeping l.rows l.width l.s l.p l.r l.initial.room l.room

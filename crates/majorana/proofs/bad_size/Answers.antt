@@ -1,20 +1,16 @@
--- `majorana::bad_size` meets its contract: test by test.
-use borrow.Author.Tests.{eq-eqb, ne_eqb, lt-ltb, le-ltb}
-use Rattle.majorana.specs.Sets.{bad_size}
+-- `majorana::bad_size` meets its contract: modes, and then qubits.
+use mathlib.Core.Path.{sym, ap, ◌∙◌}
+use mathlib.Core.Bool.{Bool, ◌||◌}
+use Rattle.refusal.specs.Table.{outside}
+use Rattle.majorana.proofs.SetLaws.{sizes}
 use Rattle.majorana.proofs.bad_size.Goals as goal
 
-pub returns-then-modes-eq0 : goal.returns-then-modes-eq0
-unfolding bad_size
-returns-then-modes-eq0 c = simp (eq-eqb _ _ c.if-modes-eq0.true)
+pub returns-then-outside : goal.returns-then-outside
+returns-then-outside c =
+    let a = c.args in
+    c.if-outside.true ∙ sym (sizes a.modes a.qubits ∙ ap (λ (b : Bool). b || outside a.qubits) (sym c.outside.ensures ∙ c.if-outside.true))
 
-pub returns-then-modes-gt256 : goal.returns-then-modes-gt256
-unfolding bad_size
-returns-then-modes-gt256 c = simp (ne_eqb _ _ c.if-modes-eq0.false, lt-ltb _ _ c.if-modes-gt256.true)
-
-pub returns-then-qubits-eq0 : goal.returns-then-qubits-eq0
-unfolding bad_size
-returns-then-qubits-eq0 c = simp (ne_eqb _ _ c.if-modes-eq0.false, le-ltb _ _ c.if-modes-gt256.false, eq-eqb _ _ c.if-qubits-eq0.true)
-
-pub returns : goal.returns
-unfolding bad_size
-returns c = simp (ne_eqb _ _ c.if-modes-eq0.false, le-ltb _ _ c.if-modes-gt256.false, ne_eqb _ _ c.if-qubits-eq0.false)
+pub returns-else-outside : goal.returns-else-outside
+returns-else-outside c =
+    let a = c.args in
+    c.outside-else-outside.ensures ∙ sym (sizes a.modes a.qubits ∙ ap (λ (b : Bool). b || outside a.qubits) (sym c.outside.ensures ∙ c.if-outside.false))

@@ -1,104 +1,87 @@
 -- `majorana::check_vacuum` meets its contract: the tests in their order, and then the vacuum rule.
-use Prim.Native.Nat.{◌≤◌}
-use native.Mathlib.Omega.{arith}
 use mathlib.Core.Path.{◌≡◌, sym, ◌∙◌}
-use mathlib.Core.Bool.{false}
+use mathlib.Core.Bool.{true, false, ◌||◌}
 use mathlib.Core.List.{[], ◌∷◌}
-use lib.ListN.{length}
-use lib.Seq.{length-take-le}
+use lib.ListN.{length, take}
 use Rattle.refusal.specs.Table.{◌of◌}
-use Rattle.refusal.proofs.Bools.{or_left}
 use Rattle.refusal.proofs.Rooms.{Hold}
-use Rattle.majorana.specs.Sets.{given, bad_size}
-use Rattle.majorana.specs.Held.{Fits, Held}
+use Rattle.dense_block.specs.Words.{strays}
+use Rattle.majorana.specs.Sets.{lent, bad_size, bad_rows}
+use Rattle.majorana.specs.Held.{Fits}
+use Rattle.majorana.proofs.SetLaws.{Entered, entered, held_in, first_holds, second_holds, none_holds}
 use Rattle.majorana.specs.Checks.{vacuum_short, vacuum_bad, vacuum_checked}
-use Rattle.majorana.proofs.SetLaws.{InSize, in_size, few_words, held_in, phase_small}
 use Rattle.majorana.proofs.check_vacuum.Goals as goal
-use Rattle.majorana.proofs.check_vacuum.Goals.{After-words_for-w, Else-bad_one, Else-bad_size, Else-short_one}
+use Rattle.majorana.proofs.check_vacuum.Goals.{After-words_for-w, Else-bad_size, Else-short, Else-stray, then-bad-via-then-bad, then-bad-via-else-bad+then-stray}
 
-size_passes : (c : Else-bad_size) → bad_size c.args.modes c.args.qubits ≡ false
+size_passes : (c : Else-bad_size) → bad_size c.args.set.modes c.args.set.qubits ≡ false
 size_passes c = sym c.bad_size.ensures ∙ c.if-bad_size.false
 
-in_range : (c : Else-bad_size) → InSize c.args.modes c.args.qubits
-in_range c = in_size _ _ (size_passes c)
+in_range : (c : After-words_for-w) → Entered c.args.set.modes c.args.set.qubits c.words_for-w.result
+in_range c = entered _ _ _ (sym c.bad_size.ensures ∙ c.if-bad_size.false) c.words_for-w.ensures
 
-few : (c : After-words_for-w) → c.words_for-w.result ≤ 4
-few c =
-    let a = c.args in
-    let in_range : InSize a.modes a.qubits = in_size _ _ (sym c.bad_size.ensures ∙ c.if-bad_size.false) in
-    omega (arith, few_words a.qubits in_range.qubits_high, c.words_for-w.ensures)
-
-lengths_pass : (c : Else-short_one) → vacuum_short (let a = c.args in given a.modes a.qubits a.x.now a.z.now a.phases.now) c.args.vacuum.now ≡ false
-unfolding vacuum_short
-lengths_pass c = rw c.words_for-w.ensures at (sym c.short_one.ensures ∙ c.if-short_one.false)
-
-fits : (c : Else-short_one) → Fits c.args.modes c.words_for-w.result c.args.x.now c.args.z.now c.args.phases.now × Hold
-    ((c.words_for-w.result of length c.args.vacuum.now) ∷ [])
+fits : (c : Else-short) → let s = c.args.set in Fits s.modes c.words_for-w.result s.x.now s.z.now s.phases.now × Hold
+    (let a = c.args in (c.words_for-w.result of length a.vacuum.now) ∷ [])
 fits c =
     let a = c.args in
-    let in_range : InSize a.modes a.qubits = in_size _ _ (sym c.bad_size.ensures ∙ c.if-bad_size.false) in
-    let few : c.words_for-w.result ≤ 4 = omega (arith, few_words a.qubits in_range.qubits_high, c.words_for-w.ensures) in
-    held_in _ _ _ _ _ ((c.words_for-w.result of length a.vacuum.now) ∷ []) in_range.modes_high few (sym c.short_one.ensures ∙ c.if-short_one.false)
+    let i = entered _ _ _ (sym c.bad_size.ensures ∙ c.if-bad_size.false) c.words_for-w.ensures in
+    held_in _ _ _ _ _ ((c.words_for-w.result of length a.vacuum.now) ∷ []) i.size.modes_high i.few (sym c.short.ensures ∙ c.if-short.false)
 
-values_pass : (c : Else-bad_one) → vacuum_bad (let a = c.args in given a.modes a.qubits a.x.now a.z.now a.phases.now) c.args.vacuum.now ≡ false
+lengths_pass : (c : Else-short) → vacuum_short (lent c.args.set) c.args.vacuum.now ≡ false
+unfolding vacuum_short
+lengths_pass c = rw c.words_for-w.ensures at (sym c.short.ensures ∙ c.if-short.false)
+
+values_pass : (c : Else-stray) → vacuum_bad (lent c.args.set) c.args.vacuum.now ≡ false
 unfolding vacuum_bad
-values_pass c = rw c.words_for-w.ensures at (sym c.bad_one.ensures ∙ c.if-bad_one.false)
-
-held : (c : Else-bad_one) → Held c.args.modes c.words_for-w.result c.args.x.now c.args.z.now c.args.phases.now
-held c =
-    let a = c.args in
-    let in_range : InSize a.modes a.qubits = in_size _ _ (sym c.bad_size.ensures ∙ c.if-bad_size.false) in
-    let few : c.words_for-w.result ≤ 4 = omega (arith, few_words a.qubits in_range.qubits_high, c.words_for-w.ensures) in
-    let fits : Fits a.modes c.words_for-w.result a.x.now a.z.now a.phases.now × Hold ((c.words_for-w.result of length a.vacuum.now) ∷ []) =
-    held_in _ _ _ _ _ ((c.words_for-w.result of length a.vacuum.now) ∷ []) in_range.modes_high few (sym c.short_one.ensures ∙ c.if-short_one.false) in
-    let good = or_left _ _ (sym c.bad_one.ensures ∙ c.if-bad_one.false) in
-    record { fits = fits.0; small = phase_small a.modes a.qubits c.words_for-w.result a.x.now a.z.now a.phases.now good }
+values_pass c = rw c.words_for-w.ensures at (none_holds (sym c.bad.ensures ∙ c.if-bad.false) (sym c.stray.ensures ∙ c.if-stray.false))
 
 pub returns-then-bad_size : goal.returns-then-bad_size
 unfolding vacuum_checked
 returns-then-bad_size c = rw (sym c.bad_size.ensures ∙ c.if-bad_size.true)
 
-pub short_one-requires : goal.short_one-requires
-short_one-requires c = ((in_range (goal.at.short_one-requires c).Else-bad_size).modes_high, few (goal.at.short_one-requires c).After-words_for-w)
+pub short-requires : goal.short-requires
+short-requires c = let i = in_range (goal.at.short-requires c).After-words_for-w in (i.size.modes_high, i.few)
 
-pub returns-then-short_one : goal.returns-then-short_one
+pub returns-then-short : goal.returns-then-short
 unfolding vacuum_checked vacuum_short
-returns-then-short_one c = rw (
-  size_passes (goal.at.returns-then-short_one c).Else-bad_size,
-  rw c.words_for-w.ensures at (sym c.short_one.ensures ∙ c.if-short_one.true),
+returns-then-short c = rw (
+  size_passes (goal.at.returns-then-short c).Else-bad_size,
+  rw c.words_for-w.ensures at (sym c.short.ensures ∙ c.if-short.true),
 )
 
-pub slice_bounds-v-end : goal.slice_bounds-v-end
-slice_bounds-v-end c = sym (length-take-le _ _ (fits (goal.at.slice_bounds-v-end c).Else-short_one).1.0)
+pub bad-requires : goal.bad-requires
+bad-requires c = (fits (goal.at.bad-requires c).Else-short).0
 
-pub bad_one-requires : goal.bad_one-requires
-bad_one-requires c = (fits (goal.at.bad_one-requires c).Else-short_one).0
-
-pub returns-then-bad_one : goal.returns-then-bad_one
+pub returns-then-bad : goal.returns-then-bad
 unfolding vacuum_checked vacuum_bad
-returns-then-bad_one c = rw (
-  size_passes (goal.at.returns-then-bad_one c).Else-bad_size,
-  lengths_pass (goal.at.returns-then-bad_one c).Else-short_one,
-  rw c.words_for-w.ensures at (sym c.bad_one.ensures ∙ c.if-bad_one.true),
-)
+returns-then-bad c =
+    let s = c.args.set in
+    let bad : (bad_rows s.modes s.qubits c.words_for-w.result s.x.now s.z.now s.phases.now || strays (take c.words_for-w.result c.args.vacuum.now) s.qubits) ≡ true = elim c.then-bad.branch [
+      | then-bad-via-then-bad w ↦ first_holds _ (sym c.bad.ensures ∙ w.if-bad.true)
+      | then-bad-via-else-bad+then-stray w ↦ second_holds (sym c.bad.ensures ∙ w.if-bad.false) (sym w.stray.ensures ∙ w.if-stray.true)
+    ] in
+    rw (
+      size_passes (goal.at.returns-then-bad c).Else-bad_size,
+      lengths_pass (goal.at.returns-then-bad c).Else-short,
+      rw c.words_for-w.ensures at bad,
+    )
 
-pub vacuum_rule-requires : goal.vacuum_rule-requires
-vacuum_rule-requires c = held (goal.at.vacuum_rule-requires c).Else-bad_one
+pub of-rows-requires-clause-fits : goal.of-rows-requires-clause-fits
+of-rows-requires-clause-fits c = (fits (goal.at.of-rows-requires-clause-fits c).Else-short).0
 
-pub returns-then-vacuum_rule : goal.returns-then-vacuum_rule
+pub returns-then-not-vacuum_rule : goal.returns-then-not-vacuum_rule
 unfolding vacuum_checked
-returns-then-vacuum_rule c = rw (
-  size_passes (goal.at.returns-then-vacuum_rule c).Else-bad_size,
-  lengths_pass (goal.at.returns-then-vacuum_rule c).Else-short_one,
-  values_pass (goal.at.returns-then-vacuum_rule c).Else-bad_one,
-  rw c.words_for-w.ensures at (sym c.vacuum_rule.ensures ∙ c.if-vacuum_rule.true),
+returns-then-not-vacuum_rule c = rw (
+  size_passes (goal.at.returns-then-not-vacuum_rule c).Else-bad_size,
+  lengths_pass (goal.at.returns-then-not-vacuum_rule c).Else-short,
+  values_pass (goal.at.returns-then-not-vacuum_rule c).Else-stray,
+  rw (c.of-rows.ensures.set, c.of-rows.ensures.w, c.words_for-w.ensures) at (sym c.vacuum_rule.ensures ∙ c.if-not-vacuum_rule.true),
 )
 
 pub returns : goal.returns
 unfolding vacuum_checked
 returns c = rw (
   size_passes (goal.at.returns c).Else-bad_size,
-  lengths_pass (goal.at.returns c).Else-short_one,
-  values_pass (goal.at.returns c).Else-bad_one,
-  rw c.words_for-w.ensures at (sym c.vacuum_rule.ensures ∙ c.if-vacuum_rule.false),
+  lengths_pass (goal.at.returns c).Else-short,
+  values_pass (goal.at.returns c).Else-stray,
+  rw (c.of-rows.ensures.set, c.of-rows.ensures.w, c.words_for-w.ensures) at (sym c.vacuum_rule.ensures ∙ c.if-not-vacuum_rule.false),
 )

@@ -1,6 +1,5 @@
 -- `majorana::determine_vacuum_state` meets its contract: sizes and lengths, then solving in the room, and the room cleared.
 use Prim.Native.Nat.{◌+◌, ◌*◌, ◌≤◌}
-use native.Mathlib.Nat.{mul-le-mul}
 use native.Mathlib.Omega.{arith}
 use mathlib.Core.Path.{◌≡◌, sym, ◌∙◌}
 use mathlib.Core.Bool.{false}
@@ -8,72 +7,62 @@ use mathlib.Core.List.{[], ◌∷◌}
 use lib.ListN.{length}
 use Rattle.refusal.specs.Table.{◌of◌}
 use Rattle.refusal.proofs.Rooms.{Hold}
+use native.Mathlib.Nat.{mul-le-mul}
 use Rattle.dense_block.proofs.Values.{words_hold}
-use Rattle.majorana.specs.Sets.{given, bad_size}
+use Rattle.majorana.specs.Sets.{lent, bad_size}
 use Rattle.majorana.specs.Held.{Fits}
+use Rattle.majorana.proofs.SetLaws.{Entered, entered, held_in}
 use Rattle.majorana.specs.Vacuums.{solve_short}
-use Rattle.majorana.proofs.SetLaws.{InSize, in_size, few_words, held_in}
 use Rattle.majorana.proofs.VacuumAnswers.{solve_size, solve_short_lem, solve_task}
 use Rattle.majorana.proofs.determine_vacuum_state.Goals as goal
-use Rattle.majorana.proofs.determine_vacuum_state.Goals.{After-words_for-w, Else-bad_size}
+use Rattle.majorana.proofs.determine_vacuum_state.Goals.{After-words_for-w, Else-bad_size, Else-short}
 
-size_passes : (c : Else-bad_size) → bad_size c.args.modes c.args.qubits ≡ false
+size_passes : (c : Else-bad_size) → bad_size c.args.set.modes c.args.set.qubits ≡ false
 size_passes c = sym c.bad_size.ensures ∙ c.if-bad_size.false
 
-in_range : (c : Else-bad_size) → InSize c.args.modes c.args.qubits
-in_range c = in_size _ _ (size_passes c)
+in_range : (c : After-words_for-w) → Entered c.args.set.modes c.args.set.qubits c.words_for-w.result
+in_range c = entered _ _ _ (sym c.bad_size.ensures ∙ c.if-bad_size.false) c.words_for-w.ensures
 
-few : (c : After-words_for-w) → c.words_for-w.result ≤ 4
-few c =
+fits : (c : Else-short) → let s = c.args.set in Fits s.modes c.words_for-w.result s.x.now s.z.now s.phases.now × Hold
+    (let a = c.args in (c.words_for-w.result of length a.vacuum.now) ∷ (a.set.modes * (c.words_for-w.result + 1) of length a.room.now) ∷ [])
+fits c =
     let a = c.args in
-    let in_range : InSize a.modes a.qubits = in_size _ _ (sym c.bad_size.ensures ∙ c.if-bad_size.false) in
-    omega (arith, few_words a.qubits in_range.qubits_high, c.words_for-w.ensures)
+    let i = entered _ _ _ (sym c.bad_size.ensures ∙ c.if-bad_size.false) c.words_for-w.ensures in
+    held_in _ _ _ _ _ ((c.words_for-w.result of length a.vacuum.now) ∷ (a.set.modes * (c.words_for-w.result + 1) of length a.room.now) ∷ []) i.size.modes_high i.few (sym c.short.ensures ∙ c.if-short.false)
 
-need_small : (c : After-words_for-w) → c.args.modes * (c.words_for-w.result + 1) ≤ 1280
-need_small c =
-    let in_range : InSize c.args.modes c.args.qubits = in_size _ _ (sym c.bad_size.ensures ∙ c.if-bad_size.false) in
-    let h : c.words_for-w.result + 1 ≤ 5 = omega (arith, few c) in mul-le-mul in_range.modes_high h
+lengths_pass : (c : Else-short) → solve_short (lent c.args.set) c.args.vacuum.now c.args.room.now ≡ false
+unfolding solve_short
+lengths_pass c = rw c.words_for-w.ensures at (sym c.short.ensures ∙ c.if-short.false)
 
 pub returns-then-bad_size : goal.returns-then-bad_size
-returns-then-bad_size c =
-    let a = c.args in
-    let s = given a.modes a.qubits a.x.now a.z.now a.phases.now in
-    solve_size s a.vacuum.now a.room.now (sym c.bad_size.ensures ∙ c.if-bad_size.true)
-
-pub overflow_add-need : goal.overflow_add-need
-overflow_add-need c = record { fits = omega (arith, few (goal.at.overflow_add-need c).After-words_for-w) }
+returns-then-bad_size c = solve_size (lent c.args.set) c.args.vacuum.now c.args.room.now (sym c.bad_size.ensures ∙ c.if-bad_size.true)
 
 pub overflow_mul-need : goal.overflow_mul-need
-overflow_mul-need c = record { fits = omega (arith, need_small (goal.at.overflow_mul-need c).After-words_for-w) }
+overflow_mul-need c =
+    let i = in_range (goal.at.overflow_mul-need c).After-words_for-w in
+    let h : c.words_for-w.result + 1 ≤ 5 = omega (arith, i.few) in
+    record { fits = omega (arith, mul-le-mul i.size.modes_high h) }
 
-pub short_two-requires : goal.short_two-requires
-short_two-requires c = ((in_range (goal.at.short_two-requires c).Else-bad_size).modes_high, few (goal.at.short_two-requires c).After-words_for-w)
+pub short-requires : goal.short-requires
+short-requires c = let i = in_range (goal.at.short-requires c).After-words_for-w in (i.size.modes_high, i.few)
 
-pub returns-then-short_two : goal.returns-then-short_two
+pub returns-then-short : goal.returns-then-short
 unfolding solve_short
-returns-then-short_two c =
-    let a = c.args in
-    let s = given a.modes a.qubits a.x.now a.z.now a.phases.now in
-    solve_short_lem s a.vacuum.now a.room.now (size_passes (goal.at.returns-then-short_two c).Else-bad_size)
-    (rw c.words_for-w.ensures at (sym c.short_two.ensures ∙ c.if-short_two.true))
+returns-then-short c =
+    solve_short_lem (lent c.args.set) c.args.vacuum.now c.args.room.now (size_passes (goal.at.returns-then-short c).Else-bad_size)
+    (rw c.words_for-w.ensures at (sym c.short.ensures ∙ c.if-short.true))
 
 pub solve_lent-answer-requires : goal.solve_lent-answer-requires
 solve_lent-answer-requires c =
-    let a = c.args in
-    let fits : Fits a.modes c.words_for-w.result a.x.now a.z.now a.phases.now × Hold
-    ((c.words_for-w.result of length a.vacuum.now) ∷ (a.modes * (c.words_for-w.result + 1) of length a.room.now) ∷ []) =
-    held_in _ _ _ _ _ ((c.words_for-w.result of length a.vacuum.now) ∷ (a.modes * (c.words_for-w.result + 1) of length a.room.now) ∷ [])
-    (in_range (goal.at.solve_lent-answer-requires c).Else-bad_size).modes_high (few (goal.at.solve_lent-answer-requires c).After-words_for-w)
-    (sym c.short_two.ensures ∙ c.if-short_two.false) in
-    let f = fits in (f.0, omega (arith, words_hold a.qubits, c.words_for-w.ensures), f.1.0, f.1.1.0)
+    let f = fits (goal.at.solve_lent-answer-requires c).Else-short in
+    let n = c.args.set.modes in
+    let w = c.words_for-w.result in
+    (f.0, omega (arith, words_hold c.args.set.qubits, c.words_for-w.ensures), f.1.0, f.1.1.0)
 
 pub returns : goal.returns
-unfolding solve_short
 returns c =
     let a = c.args in
-    let s = given a.modes a.qubits a.x.now a.z.now a.phases.now in
-    let lengths_pass : solve_short s a.vacuum.now a.room.now ≡ false = rw c.words_for-w.ensures at (sym c.short_two.ensures ∙ c.if-short_two.false) in
     let w = c.words_for-w.ensures in
     let l = c.solve_lent-answer in
-    solve_task s a.vacuum.now a.room.now (size_passes (goal.at.returns c).Else-bad_size) lengths_pass l.result l.new.v l.new.room c.clear.new.s
-    (rw w at l.ensures) (rw w at c.clear.ensures)
+    solve_task (lent a.set) a.vacuum.now a.room.now (size_passes (goal.at.returns c).Else-bad_size) (lengths_pass (goal.at.returns c).Else-short)
+    l.result l.new.v l.new.room c.clear.new.s (rw w at l.ensures) (rw w at c.clear.ensures)

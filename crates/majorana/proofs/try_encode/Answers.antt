@@ -1,103 +1,74 @@
 -- `majorana::try_encode` meets its contract: the tests in their order, and then the encoding of the words that the columns take.
-use Prim.Native.Nat.{◌≤◌}
-use native.Mathlib.Omega.{arith}
 use mathlib.Core.Path.{◌≡◌, sym, ◌∙◌}
-use mathlib.Core.Bool.{false}
+use mathlib.Core.Bool.{true, false, ◌||◌}
 use mathlib.Core.List.{[], ◌∷◌}
-use lib.ListN.{length}
-use lib.Seq.{length-take-le}
+use lib.ListN.{length, take}
 use Rattle.refusal.specs.Table.{◌of◌}
-use Rattle.refusal.proofs.Bools.{or_left}
 use Rattle.refusal.proofs.Rooms.{Hold}
-use Rattle.majorana.specs.Sets.{given, bad_size}
-use Rattle.majorana.specs.Held.{Fits, Held}
-use Rattle.majorana.proofs.SetLaws.{InSize, in_size, few_words, held_in, phase_small}
+use Rattle.dense_block.specs.Words.{strays}
+use Rattle.majorana.specs.Sets.{lent, bad_size, bad_rows}
+use Rattle.majorana.specs.Held.{Fits}
+use Rattle.majorana.proofs.SetLaws.{Entered, entered, held_in, first_holds, second_holds, none_holds}
 use Rattle.majorana.specs.Codes.{encoded, encode_short, encode_bad}
 use Rattle.majorana.proofs.CodeAnswers.{encode_size, encode_short_lem, encode_value, encode_run}
 use Rattle.majorana.proofs.try_encode.Goals as goal
-use Rattle.majorana.proofs.try_encode.Goals.{After-words_for-w, Else-bad_size, Else-short_three}
+use Rattle.majorana.proofs.try_encode.Goals.{After-words_for-w, Else-bad_size, Else-short, then-bad-via-then-bad, then-bad-via-else-bad+then-stray, then-bad-via-else-bad+else-stray+then-stray-2}
 
-size_passes : (c : Else-bad_size) → bad_size c.args.modes c.args.qubits ≡ false
+size_passes : (c : Else-bad_size) → bad_size c.args.set.modes c.args.set.qubits ≡ false
 size_passes c = sym c.bad_size.ensures ∙ c.if-bad_size.false
 
-in_range : (c : Else-bad_size) → InSize c.args.modes c.args.qubits
-in_range c = in_size _ _ (size_passes c)
+in_range : (c : After-words_for-w) → Entered c.args.set.modes c.args.set.qubits c.words_for-w.result
+in_range c = entered _ _ _ (sym c.bad_size.ensures ∙ c.if-bad_size.false) c.words_for-w.ensures
 
-few : (c : After-words_for-w) → c.words_for-w.result ≤ 4
-few c =
-    let a = c.args in
-    let in_range : InSize a.modes a.qubits = in_size _ _ (sym c.bad_size.ensures ∙ c.if-bad_size.false) in
-    omega (arith, few_words a.qubits in_range.qubits_high, c.words_for-w.ensures)
-
-fits : (c : Else-short_three) → Fits c.args.modes c.words_for-w.result c.args.x.now c.args.z.now c.args.phases.now × Hold
-    (let a = c.args in (c.words_for-w.result of length a.vacuum.now) ∷ (c.words_for-lw.result of length a.list.now)
-    ∷ (c.words_for-w.result of length a.out.now) ∷ [])
+fits : (c : Else-short) → let s = c.args.set in Fits s.modes c.words_for-w.result s.x.now s.z.now s.phases.now × Hold
+    (let a = c.args in (c.words_for-w.result of length a.vacuum.now) ∷ (c.words_for-lw.result of length a.list.now) ∷ (c.words_for-w.result of length a.out.now) ∷ [])
 fits c =
     let a = c.args in
-    let in_range : InSize a.modes a.qubits = in_size _ _ (sym c.bad_size.ensures ∙ c.if-bad_size.false) in
-    let few : c.words_for-w.result ≤ 4 = omega (arith, few_words a.qubits in_range.qubits_high, c.words_for-w.ensures) in
-    held_in _ _ _ _ _ ((c.words_for-w.result of length a.vacuum.now) ∷ (c.words_for-lw.result of length a.list.now)
-    ∷ (c.words_for-w.result of length a.out.now) ∷ []) in_range.modes_high few (sym c.short_three.ensures ∙ c.if-short_three.false)
+    let i = entered _ _ _ (sym c.bad_size.ensures ∙ c.if-bad_size.false) c.words_for-w.ensures in
+    held_in _ _ _ _ _ ((c.words_for-w.result of length a.vacuum.now) ∷ (c.words_for-lw.result of length a.list.now) ∷ (c.words_for-w.result of length a.out.now) ∷ []) i.size.modes_high i.few (sym c.short.ensures ∙ c.if-short.false)
 
-lengths_pass : (c : Else-short_three) → encode_short
-    (let a = c.args in given a.modes a.qubits a.x.now a.z.now a.phases.now) c.args.vacuum.now c.args.list.now c.args.out.now ≡ false
+lengths_pass : (c : Else-short) → encode_short (lent c.args.set) c.args.vacuum.now c.args.list.now c.args.out.now ≡ false
 unfolding encode_short
-lengths_pass c = rw (c.words_for-w.ensures, c.words_for-lw.ensures) at (sym c.short_three.ensures ∙ c.if-short_three.false)
+lengths_pass c = rw (c.words_for-w.ensures, c.words_for-lw.ensures) at (sym c.short.ensures ∙ c.if-short.false)
 
 pub returns-then-bad_size : goal.returns-then-bad_size
-returns-then-bad_size c =
-    let a = c.args in
-    let s = given a.modes a.qubits a.x.now a.z.now a.phases.now in
-    encode_size s a.vacuum.now a.list.now a.out.now (sym c.bad_size.ensures ∙ c.if-bad_size.true)
+returns-then-bad_size c = encode_size (lent c.args.set) c.args.vacuum.now c.args.list.now c.args.out.now (sym c.bad_size.ensures ∙ c.if-bad_size.true)
 
-pub short_three-requires : goal.short_three-requires
-short_three-requires c = ((in_range (goal.at.short_three-requires c).Else-bad_size).modes_high, few (goal.at.short_three-requires c).After-words_for-w)
+pub short-requires : goal.short-requires
+short-requires c = let i = in_range (goal.at.short-requires c).After-words_for-w in (i.size.modes_high, i.few)
 
-pub returns-then-short_three : goal.returns-then-short_three
+pub returns-then-short : goal.returns-then-short
 unfolding encode_short
-returns-then-short_three c =
-    let a = c.args in
-    let s = given a.modes a.qubits a.x.now a.z.now a.phases.now in
-    encode_short_lem s a.vacuum.now a.list.now a.out.now (size_passes (goal.at.returns-then-short_three c).Else-bad_size)
-    (rw (c.words_for-w.ensures, c.words_for-lw.ensures) at (sym c.short_three.ensures ∙ c.if-short_three.true))
+returns-then-short c =
+    encode_short_lem (lent c.args.set) c.args.vacuum.now c.args.list.now c.args.out.now (size_passes (goal.at.returns-then-short c).Else-bad_size)
+    (rw (c.words_for-w.ensures, c.words_for-lw.ensures) at (sym c.short.ensures ∙ c.if-short.true))
 
-pub slice_bounds-v-end : goal.slice_bounds-v-end
-slice_bounds-v-end c = sym (length-take-le _ _ (fits (goal.at.slice_bounds-v-end c).Else-short_three).1.0)
+pub bad-requires : goal.bad-requires
+bad-requires c = (fits (goal.at.bad-requires c).Else-short).0
 
-pub slice_bounds-l-end : goal.slice_bounds-l-end
-slice_bounds-l-end c = sym (length-take-le _ _ (fits (goal.at.slice_bounds-l-end c).Else-short_three).1.1.0)
-
-pub bad_two-requires : goal.bad_two-requires
-bad_two-requires c = (fits (goal.at.bad_two-requires c).Else-short_three).0
-
-pub returns-then-bad_two : goal.returns-then-bad_two
+pub returns-then-bad : goal.returns-then-bad
 unfolding encode_bad
-returns-then-bad_two c =
-    let a = c.args in
-    let s = given a.modes a.qubits a.x.now a.z.now a.phases.now in
-    encode_value s a.vacuum.now a.list.now a.out.now (size_passes (goal.at.returns-then-bad_two c).Else-bad_size)
-    (lengths_pass (goal.at.returns-then-bad_two c).Else-short_three)
-    (rw (c.words_for-w.ensures, c.words_for-lw.ensures) at (sym c.bad_two.ensures ∙ c.if-bad_two.true))
+returns-then-bad c =
+    let s = c.args.set in
+    let v = strays (take c.words_for-w.result c.args.vacuum.now) s.qubits in
+    let bad : (bad_rows s.modes s.qubits c.words_for-w.result s.x.now s.z.now s.phases.now || (v || strays (take c.words_for-lw.result c.args.list.now) s.modes)) ≡ true = elim c.then-bad.branch [
+      | then-bad-via-then-bad w ↦ first_holds _ (sym c.bad.ensures ∙ w.if-bad.true)
+      | then-bad-via-else-bad+then-stray w ↦ second_holds (sym c.bad.ensures ∙ w.if-bad.false) (first_holds _ (sym w.stray.ensures ∙ w.if-stray.true))
+      | then-bad-via-else-bad+else-stray+then-stray-2 w ↦
+          second_holds (sym c.bad.ensures ∙ w.if-bad.false) (second_holds (sym w.stray.ensures ∙ w.if-stray.false) (sym w.stray-else-stray.ensures ∙ w.if-stray-2.true))
+    ] in
+    encode_value (lent c.args.set) c.args.vacuum.now c.args.list.now c.args.out.now (size_passes (goal.at.returns-then-bad c).Else-bad_size)
+    (lengths_pass (goal.at.returns-then-bad c).Else-short) (rw (c.words_for-w.ensures, c.words_for-lw.ensures) at bad)
 
-pub encode_into-requires : goal.encode_into-requires
-encode_into-requires c =
-    let a = c.args in
-    let held : Held a.modes c.words_for-w.result a.x.now a.z.now a.phases.now =
-    let good = or_left _ _ (sym c.bad_two.ensures ∙ c.if-bad_two.false) in
-    record {
-      fits = (fits (goal.at.encode_into-requires c).Else-short_three).0;
-      small = phase_small a.modes a.qubits c.words_for-w.result a.x.now a.z.now a.phases.now good;
-    }
-    in
-    (held, length-take-le _ _ (fits (goal.at.encode_into-requires c).Else-short_three).1.0, (fits (goal.at.encode_into-requires c).Else-short_three).1.1.1.0)
+pub of-requires-clause-fits : goal.of-requires-clause-fits
+of-requires-clause-fits c = (fits (goal.at.of-requires-clause-fits c).Else-short).0
 
 pub returns : goal.returns
 unfolding encoded encode_bad
 returns c =
-    let a = c.args in
-    let s = given a.modes a.qubits a.x.now a.z.now a.phases.now in
-    let values_pass : encode_bad s a.vacuum.now a.list.now ≡ false =
-    rw (c.words_for-w.ensures, c.words_for-lw.ensures) at (sym c.bad_two.ensures ∙ c.if-bad_two.false) in
-    let r = rw (c.words_for-w.ensures, c.words_for-lw.ensures) at c.encode_into.ensures in
-    encode_run s a.vacuum.now a.list.now a.out.now (size_passes (goal.at.returns c).Else-bad_size)
-    (lengths_pass (goal.at.returns c).Else-short_three) values_pass _ _ r.0 r.1
+    let good =
+    none_holds (sym c.bad.ensures ∙ c.if-bad.false) (none_holds (sym c.stray.ensures ∙ c.if-stray.false) (sym c.stray-else-stray.ensures ∙ c.if-stray-2.false)) in
+    let r = rw (c.of.ensures.set, c.of.ensures.w) at c.encode.ensures in
+    let done = rw (c.words_for-w.ensures, c.words_for-lw.ensures) at r in
+    encode_run (lent c.args.set) c.args.vacuum.now c.args.list.now c.args.out.now (size_passes (goal.at.returns c).Else-bad_size)
+    (lengths_pass (goal.at.returns c).Else-short) (rw (c.words_for-w.ensures, c.words_for-lw.ensures) at good) _ _ done.0 done.1

@@ -2,7 +2,6 @@
 use Prim.Native.Nat.{ℕ, ◌-◌, ◌*◌}
 use native.Mathlib.Omega.{arith}
 use mathlib.Core.Path.{sym, ap, ◌∙◌}
-use lib.Pow.{pow_pos}
 use Rattle.dense_block.proofs.Columns.{one_shl}
 use Rattle.maxnto.proofs.Masks.{ones_none, ones_some, ones_all}
 use Rattle.maxnto.proofs.ones_below.Goals as goal
@@ -12,9 +11,6 @@ returns-then-c-from c = let a = c.args in sym (ones_none a.c a.k c.if-c-from.tru
 
 pub returns-then-c-from-ge64 : goal.returns-then-c-from-ge64
 returns-then-c-from-ge64 c = let a = c.args in sym (ones_all a.c a.k (omega arith) c.if-c-from-ge64.true)
-
-pub overflow_sub-result-2 : goal.overflow_sub-result-2
-overflow_sub-result-2 c = let a = c.args in omega (arith, one_shl (a.c - 64 * a.k) (omega arith), pow_pos (a.c - 64 * a.k))
 
 pub returns : goal.returns
 returns c =

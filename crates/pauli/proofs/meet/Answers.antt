@@ -1,7 +1,7 @@
 -- `pauli::meet` meets its contract: one parity for the sign of the phase, and one of both crossed products for whether the rows commute.
 use mathlib.Core.Path.{ap, ◌∙◌}
 use mathlib.Core.Bool.{not}
-use Rattle.pauli.specs.Product.{lent_row}
+use Rattle.pauli.specs.Product.{lent}
 use Rattle.pauli.proofs.Products.{met_phase, commute_by}
 use Rattle.pauli.proofs.meet.Goals as goal
 
@@ -9,8 +9,8 @@ pub returns : goal.returns
 returns c =
     let a = c.args in
     record {
-      phase = met_phase a.left.power a.right.power a.lz.now a.rx.now c.add.ensures c.double_parity.ensures c.parity_and-sign.ensures;
+      phase = met_phase a.left.phase.power a.right.phase.power a.left.z.now a.right.x.now c.add.ensures c.double_parity.ensures c.parity_and-sign.ensures;
       commute =
           ap not c.parity-clash.ensures
-          ∙ commute_by (lent_row a.left.power a.lx.now a.lz.now) (lent_row a.right.power a.rx.now a.rz.now) _ c.fold_both.ensures.parity;
+          ∙ commute_by (lent a.left) (lent a.right) _ c.fold_both.ensures.parity;
     }

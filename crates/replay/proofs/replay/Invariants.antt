@@ -1,9 +1,6 @@
 -- Safe, and ends: the cases are counted.
-use Rattle.std.proofs.Common.{◌≤◌, ◌-◌}
+use Rattle.std.proofs.Common.{◌-◌}
 use Rattle.replay.proofs.replay.Given as goal
-
-abbrev pub invariant-loop-cases : goal.invariant-loop-cases
-invariant-loop-cases g l = l.cases ≤ 65536
 
 abbrev pub decreases-loop-cases : goal.decreases-loop-cases
 decreases-loop-cases g l = 65536 - l.cases

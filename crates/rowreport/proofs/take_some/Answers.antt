@@ -4,4 +4,4 @@ use Rattle.rowreport.proofs.Chunks.{some_taken}
 use Rattle.rowreport.proofs.take_some.Goals as goal
 
 pub returns : goal.returns
-returns g c = some_taken c.take.ensures (omega (arith, c.in-Ok.ensures.bound.1))
+returns g c = some_taken c.take.ensures (omega (arith, c.in_ok-n.ensures.bound.1))

@@ -2,5 +2,5 @@
 use Rattle.rowreport_core.proofs.Sentences.{refused_explained}
 use Rattle.rowreport_core.proofs.sentence.Goals as goal
 
-pub returns-in-Refused : goal.returns-in-Refused
-returns-in-Refused c = refused_explained _ _ _ _ _ _ _ _ c.in-Refused.is c.locate-site.ensures c.explain.ensures.count c.explain.ensures.bytes
+pub returns-in-Err : goal.returns-in-Err
+returns-in-Err c = refused_explained _ _ _ _ _ _ _ _ c.in-Err.is c.locate.ensures c.explain.ensures.count c.explain.ensures.bytes

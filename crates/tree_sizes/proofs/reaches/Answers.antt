@@ -5,7 +5,6 @@ use native.Mathlib.Omega.{arith}
 use mathlib.Core.Path.{◌≡◌, sym}
 use mathlib.Core.Bool.{false}
 use mathlib.Core.List.{List}
-use borrow.Author.Count.{below_more}
 use borrow.Author.Tests.{le-leb, lt-leb, leb-false}
 use lib.Dec.{leb}
 use lib.ListN.{get_or-eq_default, length}
@@ -24,25 +23,15 @@ none_later es n b m e before j h = go (dec_lt j m)
     go (yes g) = before j g
     go (no g) = let low : leb b (qubit_at es 0) ≡ false = before 0 (omega (arith, g)) in lt-leb b (qubit_at es j) (omega (arith, g, zero_at j (omega (arith, g)), leb-false b (qubit_at es 0) low))
 
-pub loop-i-init : goal.loop-i-init
-loop-i-init c = (omega arith, λ j h. absurd (omega arith))
-
 pub returns-then-b-qubit_at : goal.returns-then-b-qubit_at
 unfolding reaches
 returns-then-b-qubit_at c =
     let l = c.loop-i in
     let a = c.args in
-    sym (some_of a.n (λ k. leb a.b (qubit_at a.entries.now k)) l.i (omega (arith, c.loop-i-test.true, c.least-m.ensures)) (le-leb a.b (qubit_at a.entries.now l.i) (omega (arith, c.if-b-qubit_at.true, c.qubit_at.ensures))))
-
-pub loop-i-preserved : goal.loop-i-preserved
-loop-i-preserved c =
-    let l = c.loop-i in
-    let a = c.args in
-    (omega arith, below_more _ l.i l.invariant.1 (lt-leb a.b (qubit_at a.entries.now l.i) (omega (arith, c.if-b-qubit_at.false, c.qubit_at.ensures))))
+    sym (some_of a.n (λ k. leb a.b (qubit_at a.entries.now k)) l.i (omega (arith, c.loop-i-test.true, c.min-m.ensures)) (le-leb a.b (qubit_at a.entries.now l.i) (omega (arith, c.if-b-qubit_at.true, c.qubit_at.ensures))))
 
 pub returns : goal.returns
 unfolding reaches
 returns c =
-    let l = c.loop-i in
     let a = c.args in
-    sym (none_of a.n (λ k. leb a.b (qubit_at a.entries.now k)) (none_later a.entries.now a.n a.b c.least-m.result c.least-m.ensures (λ j h. l.invariant.1 j (omega (arith, c.loop-i-test.false)))))
+    sym (none_of a.n (λ k. leb a.b (qubit_at a.entries.now k)) (none_later a.entries.now a.n a.b c.min-m.result (omega (arith, c.min-m.ensures)) (λ j h. c.loop-i.invariant j (omega (arith, c.loop-i-test.false)))))

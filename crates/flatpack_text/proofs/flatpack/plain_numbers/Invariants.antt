@@ -1,11 +1,7 @@
 -- `flatpack_text::flatpack::plain_numbers` meets its contract: after i turns the first i numbers are placed.
-use Prim.Native.Nat.{◌≤◌, ◌-◌, ◌*◌, min}
 use mathlib.Core.Path.{◌≡◌}
 use Rattle.flatpack_text.specs.Entries.{placed, plain_at}
 use Rattle.flatpack_text.proofs.flatpack.plain_numbers.Given as goal
 
 abbrev pub invariant-loop-i : goal.invariant-loop-i
-invariant-loop-i l = (l.i ≤ l.m) × (l.m ≡ 4 * min l.n 256) × (l.entries ≡ placed (plain_at l.table) l.i l.initial.entries)
-
-abbrev pub decreases-loop-i : goal.decreases-loop-i
-decreases-loop-i l = l.m - l.i
+invariant-loop-i l = l.entries ≡ placed (plain_at l.table) l.i l.initial.entries

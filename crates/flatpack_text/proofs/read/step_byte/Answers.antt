@@ -38,4 +38,4 @@ pub returns : goal.returns
 returns c =
     let a = c.args in
     let t = at_other a.s a.b a.table.now c.if-b-eq9.false c.if-b-eq10.false in
-    record { state = c.on_line.ensures ∙ ap (λ (f : Field). on_line a.s.entries a.s.fields a.s.qubit a.s.x a.s.y f) c.next_byte.ensures ∙ t.0; entries = t.1 }
+    record { state = c.with_field.ensures ∙ ap (λ (f : Field). on_line a.s.entries a.s.fields a.s.qubit a.s.x a.s.y f) c.next_byte.ensures ∙ t.0; entries = t.1 }

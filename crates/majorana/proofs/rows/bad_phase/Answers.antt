@@ -8,6 +8,7 @@ use native.Mathlib.Omega.{arith}
 use borrow.Author.Tests.{lt-ltb, le-ltb}
 use lib.Dec.{ltb}
 use lib.ListN.{get_or-eq_default, length, get_or}
+use Rattle.std.proofs.lemmas.List.{get_or-take, length-take}
 use Rattle.refusal.specs.Search.{some_below}
 use Rattle.refusal.proofs.Searches.{some_none, some_next, some_past}
 use Rattle.majorana.proofs.rows.bad_phase.Goals as goal
@@ -32,21 +33,21 @@ ended l n i e = go (dec_lt (length l) n)
     go (yes h) = sym (some_past n i (λ k. ltb 3 (get_or l k 0)) (omega arith) (λ j g. ap (ltb 3) (get_or-eq_default l 0 (omega arith))))
     go (no h) = let s : i ≡ n = omega (arith, h) in ap (λ (m : ℕ). some_below m (λ k. ltb 3 (get_or l k 0))) s
 
-pub loop-i-init : goal.loop-i-init
-loop-i-init c = (omega arith, c.least-m.ensures, sym (some_none 0 (λ (k : ℕ). ltb 3 (get_or c.args.phases.now k 0)) (omega arith)))
+pub loop-p-init : goal.loop-p-init
+loop-p-init c = sym (some_none 0 _ (omega arith))
 
-pub loop-i-preserved : goal.loop-i-preserved
-loop-i-preserved c =
-    let l = c.loop-i in
-    let p = get_or c.args.phases.now l.i 0 in (
-      omega (arith, c.loop-i-test.true),
-      l.invariant.1,
-      ap (ltb 3) c.larger-top.ensures ∙ either l.top p ∙ ap (λ (b : Bool). ltb 3 p || b) l.invariant.2
-          ∙ sym (some_next l.i (λ (k : ℕ). ltb 3 (get_or c.args.phases.now k 0))),
-    )
+pub loop-p-preserved : goal.loop-p-preserved
+loop-p-preserved c =
+    let l = c.loop-p in
+    let xs = c.args.phases.now in
+    let p = get_or xs l.p-index 0 in
+    let here = get_or-take c.min-m.result xs l.p-index 0 (omega (arith, length-take c.min-m.result xs, c.loop-p-test.true)) in
+    ap (ltb 3) (rw here at c.max-top.ensures) ∙ either l.top p ∙ ap (λ (b : Bool). ltb 3 p || b) l.invariant
+    ∙ sym (some_next l.p-index (λ (k : ℕ). ltb 3 (get_or xs k 0)))
 
 pub returns : goal.returns
 returns c =
-    let l = c.loop-i in
+    let l = c.loop-p in
     let a = c.args in
-    l.invariant.2 ∙ ended a.phases.now a.n l.i (omega (arith, l.invariant.0, l.invariant.1, c.loop-i-test.false))
+    l.invariant
+    ∙ ended a.phases.now a.n l.p-index (omega (arith, c.loop-p-test.false, c.min-m.ensures, length-take c.min-m.result a.phases.now))

@@ -1,29 +1,21 @@
 -- `report::explain::put_place` meets its contract: the words, the line, and then the slot.
 use native.Mathlib.Omega.{arith}
-use Rattle.report.proofs.LineLaws.{stored_same}
-use Rattle.report.proofs.Sentences.{place_unknown, number_fits, spot_fits, place_stored}
+use Rattle.report.proofs.Sentences.{number_fits, spot_fits, place_stored, place_short, place_is}
 use Rattle.report.proofs.explain.put_place.Goals as goal
-
-pub returns-then-line-eq0 : goal.returns-then-line-eq0
-returns-then-line-eq0 c =
-    let a = c.args in
-    let s = stored_same a.out.now a.at _ _ (place_unknown a.line a.spot c.if-line-eq0.true) c.put_word.ensures in
-    record { spot = s.place; bytes = s.bytes }
 
 pub put_number-b-requires : goal.put_number-b-requires
 put_number-b-requires c =
     let a = c.args in
-    number_fits a.out.now a.at a.line a.spot c.if-line-eq0.false c.put_word-a.ensures (omega arith) (omega arith)
+    number_fits a.out.now a.at c.in-Some.site c.put_word-a.ensures (omega arith) (omega arith)
 
 pub put_spot-requires : goal.put_spot-requires
 put_spot-requires c =
     let a = c.args in
-    spot_fits a.out.now a.at a.line a.spot c.if-line-eq0.false c.put_word-a.ensures c.spot_mark.ensures c.put_number-b.ensures (omega arith) (omega arith)
+    spot_fits a.out.now a.at c.in-Some.site c.put_word-a.ensures c.spot_mark.ensures c.put_number-b.ensures (omega arith) (omega arith)
 
 pub returns : goal.returns
 returns c =
     let a = c.args in
     let p = c.put_spot.ensures in
-    let s = place_stored a.out.now a.at a.line a.spot c.if-line-eq0.false c.put_word-a.ensures c.spot_mark.ensures c.put_number-b.ensures
-    (record { place = p.spot; bytes = p.bytes }) in
-    record { spot = s.place; bytes = s.bytes }
+    let s = place_stored a.out.now a.at c.in-Some.site c.put_word-a.ensures c.spot_mark.ensures c.put_number-b.ensures (record { place = p.spot; bytes = p.bytes }) in
+    place_is a.out.now a.at c.in-Some.is s (place_short c.in-Some.site (omega arith))

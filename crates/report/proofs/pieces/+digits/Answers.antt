@@ -12,5 +12,5 @@ returns-then-n-lt10 t c = ap length (sym (digits_small c.args.n c.if-n-lt10.true
 pub overflow_add-result : goal.overflow_add-result
 overflow_add-result t c = record { fits = omega (arith, c.digits.ensures, digits_word (c.args.n / 10) (omega arith)) }
 
-pub returns : goal.returns
-returns t c = omega (arith, c.digits.ensures, length_large c.args.n c.if-n-lt10.false)
+pub returns-else-n-lt10 : goal.returns-else-n-lt10
+returns-else-n-lt10 t c = omega (arith, c.digits.ensures, length_large c.args.n c.if-n-lt10.false)

@@ -3,12 +3,12 @@ use mathlib.Core.Path.{refl}
 use Rattle.report.proofs.Replies.{replies_entries, replies_malformed}
 use Rattle.report.proofs.reply.respond.Goals as goal
 
-pub returns-in-Entries : goal.returns-in-Entries
-returns-in-Entries c =
+pub returns-in-Ok : goal.returns-in-Ok
+returns-in-Ok c =
     let a = c.args in
-    replies_entries a.s a.table.now a.out.now c.in-Entries.ensures _ refl c.build.ensures
+    replies_entries a.s a.table.now a.out.now c.in-Ok.ensures _ refl c.build.ensures
 
-pub returns-in-Malformed : goal.returns-in-Malformed
-returns-in-Malformed c =
+pub returns-in-Err : goal.returns-in-Err
+returns-in-Err c =
     let a = c.args in
-    replies_malformed a.s a.table.now a.out.now c.in-Malformed.ensures _ refl c.refused_line-length.ensures.count c.refused_line-length.ensures.bytes
+    replies_malformed a.s a.table.now a.out.now c.in-Err.ensures _ refl c.number.ensures c.refused_line-length.ensures.count c.refused_line-length.ensures.bytes

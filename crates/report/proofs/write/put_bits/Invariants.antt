@@ -1,5 +1,4 @@
 -- `report::write::put_bits` meets its contract: after j turns the bits of the first j columns are stored.
-use Prim.Native.Nat.{◌-◌, ◌≤◌}
 use mathlib.Core.Path.{◌≡◌}
 use lib.ListN.{length}
 use lib.Seq.{sets}
@@ -8,7 +7,4 @@ use Rattle.report.specs.Report.{bit_at, columns}
 use Rattle.report.proofs.write.put_bits.Given as goal
 
 abbrev pub invariant-loop-j : goal.invariant-loop-j
-invariant-loop-j l = (l.j ≤ l.q) × (length l.out ≡ length l.initial.out) × (l.out ≡ sets l.initial.out l.at (columns (bit_at (value l.v)) l.j))
-
-abbrev pub decreases-loop-j : goal.decreases-loop-j
-decreases-loop-j l = l.q - l.j
+invariant-loop-j l = (length l.out ≡ length l.initial.out) × (l.out ≡ sets l.initial.out l.at (columns (bit_at (value l.v)) l.j))

@@ -14,9 +14,8 @@ unfolding column
 loop-j-preserved c =
     let l = c.loop-j in
     let a = c.args in (
-      omega arith,
-      length-set l.out _ _ ∙ l.invariant.1,
-      columns_next a.out.now a.at l.j (letter_at (row_of 0 a.x.now a.z.now)) l.invariant.2
+      length-set l.out _ _ ∙ l.invariant.0,
+      columns_next a.out.now a.at l.j (letter_at (row_of 0 a.x.now a.z.now)) l.invariant.1
           (c.letter_byte.ensures ∙ ap₂ letter c.get_index.ensures c.get_index-in-loop-j.ensures),
     )
 
@@ -26,4 +25,4 @@ returns c =
     let a = c.args in
     let f = letter_at (row_of 0 a.x.now a.z.now) in
     let e : l.j ≡ a.q = omega arith in
-    ending a.out.now a.at l.j (columns f a.q) 10 (e ∙ sym (length_columns f a.q)) (l.invariant.2 ∙ ap (λ (k : ℕ). sets a.out.now a.at (columns f k)) e)
+    ending a.out.now a.at a.q (columns f a.q) 10 (sym (length_columns f a.q)) (l.invariant.1 ∙ ap (λ (k : ℕ). sets a.out.now a.at (columns f k)) e)

@@ -1,5 +1,4 @@
 -- `report::write::put_letters` meets its contract: after j turns the letters of the first j columns are stored.
-use Prim.Native.Nat.{◌-◌, ◌≤◌}
 use mathlib.Core.Path.{◌≡◌}
 use lib.ListN.{length}
 use lib.Seq.{sets}
@@ -7,7 +6,4 @@ use Rattle.report.specs.Report.{letter_at, columns, row_of}
 use Rattle.report.proofs.write.put_letters.Given as goal
 
 abbrev pub invariant-loop-j : goal.invariant-loop-j
-invariant-loop-j l = (l.j ≤ l.q) × (length l.out ≡ length l.initial.out) × (l.out ≡ sets l.initial.out l.at (columns (letter_at (row_of 0 l.x l.z)) l.j))
-
-abbrev pub decreases-loop-j : goal.decreases-loop-j
-decreases-loop-j l = l.q - l.j
+invariant-loop-j l = (length l.out ≡ length l.initial.out) × (l.out ≡ sets l.initial.out l.at (columns (letter_at (row_of 0 l.x l.z)) l.j))

@@ -8,6 +8,7 @@ use Rattle.report.specs.Report.{digits_of, letter_at, letters, row_of, row_numbe
 use Rattle.report.proofs.Digits.{digits_word}
 use Rattle.report.proofs.Stores.{length_columns}
 use Rattle.report.proofs.LineLaws.{length_three, too_short, at_front}
+use Rattle.report.proofs.write.row_line.Goals.{then-out-fixed-via-then-out-fixed, then-out-fixed-via-else-out-fixed+then-out-fixed-2}
 use Rattle.report.proofs.write.row_line.Goals as goal
 use Rattle.report.proofs.write.row_line.Goals.{After-digits-2}
 
@@ -43,12 +44,9 @@ overflow_add-fixed-2 c = record { fits = omega (arith, few (goal.at.overflow_add
 pub returns-then-out-fixed : goal.returns-then-out-fixed
 returns-then-out-fixed c =
     let g = (goal.at.returns-then-out-fixed c).After-digits-2 in
-    too_short (line g) c.args.out.now (omega (arith, c.if-out-fixed.true, line_length g))
-
-pub returns-then-out-fixed-2 : goal.returns-then-out-fixed-2
-returns-then-out-fixed-2 c =
-    let g = (goal.at.returns-then-out-fixed-2 c).After-digits-2 in
-    too_short (line g) c.args.out.now (omega (arith, c.if-out-fixed-2.true, c.if-out-fixed.false, line_length g))
+    let e = line_length g in
+    too_short (line g) c.args.out.now (
+    elim c.then-out-fixed.branch [ then-out-fixed-via-then-out-fixed w ↦ omega (arith, w.if-out-fixed.true, e) | then-out-fixed-via-else-out-fixed+then-out-fixed-2 w ↦ omega (arith, w.if-out-fixed.false, w.if-out-fixed-2.true, e) ])
 
 pub put_row-requires : goal.put_row-requires
 put_row-requires c =

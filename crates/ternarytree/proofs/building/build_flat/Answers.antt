@@ -1,59 +1,60 @@
--- `build_flat` meets its contract: the tests, then the tables, then the rows.
-use native.Mathlib.Omega.{arith}
-use lib.ListN.{get_or-replicate}
-use mathlib.Core.Path.{refl, sym, ◌∙◌}
-use Rattle.ternarytree.specs.Building.{flat}
+-- `build_flat` meets its contract: the tables and the tests, then the rows.
+use Rattle.std.proofs.Common.{◌≡◌, sym, ap, ◌∙◌}
+use Rattle.std.proofs.lemmas.Result.{err_from_is_err_and}
+use Rattle.refusal.specs.Numbers.{Paper, answered}
 use Rattle.trees.proofs.Flats.{flatpack_closed}
+use Rattle.ternarytree.specs.Reading.{read, Filled}
+use Rattle.ternarytree.specs.Tables.{verdict, Ready}
 use Rattle.ternarytree.proofs.ChainSteps.{children_most}
 use Rattle.ternarytree.proofs.BuildSteps.{flat_ready}
-use Rattle.ternarytree.proofs.Verdicts.{verdict_number, verdict_passes, tree_refused, tree_passed}
+use Rattle.ternarytree.proofs.Verdicts.{verdict_passes, tree_refused, tree_passed}
 use Rattle.ternarytree.proofs.building.build_flat.Goals as goal
+use Rattle.ternarytree.proofs.building.build_flat.Goals.{In_ok-check_tree, After-copy_qubits}
 
-pub check_tree-number-requires : goal.check_tree-number-requires
-check_tree-number-requires c =
-    let p = c.requires in
-    (p.0, p.2, p.3, p.4, λ j h. omega (arith, p.5 j h), λ j h. get_or-replicate 256 j 0 0 h, refl, refl, λ j h. get_or-replicate 512 j 0 0 h, refl)
+-- what the tests leave of a tree that passes them
+filled : (c : In_ok-check_tree) → Filled (read c.args.e) c.args.e.n c.check_tree.new.tables.parents c.check_tree.new.children c.check_tree.new.tables.slots
+filled c = c.check_tree.ensures.filled (c.in_ok-check_tree.was)
 
-pub refused-requires : goal.refused-requires
-refused-requires c =
-    let t = flat c.args.leaves c.args.n c.args.entries.now c.args.filled.now in
-    let y = c.check_tree-number in
-    let v = verdict_number c.args.leaves t (λ z. c.if-number-ne0.true (y.ensures.0 ∙ z)) in
-    (omega (arith, v.0, y.ensures.0), omega (arith, v.1, y.ensures.0))
+passed : (c : In_ok-check_tree) → verdict c.args.e.leaves (read c.args.e) ≡ 0
+passed c = sym (ap (λ (p : Paper). p.number) (ap answered (sym c.in_ok-check_tree.was) ∙ c.check_tree.ensures.told))
 
-pub returns-then-number-ne0 : goal.returns-then-number-ne0
-returns-then-number-ne0 c =
-    let t = flat c.args.leaves c.args.n c.args.entries.now c.args.filled.now in
-    let y = c.check_tree-number in
-    tree_refused c.args.leaves t c.args.w y.result _ _ _ _ c.refused.result c.if-number-ne0.true y.ensures.0 c.refused.ensures
+pub returns-in_err-check_tree : goal.returns-in_err-check_tree
+returns-in_err-check_tree c =
+    let p = err_from_is_err_and c.from_residual.result c.from_residual.ensures.1 in
+    let e = c.args.e in
+    rw (p.1, p.2) (tree_refused e.leaves (read e) c.args.w _ _ _ _ c.in_err-check_tree.field-0.0 (ap answered (sym c.in_err-check_tree.was) ∙ c.check_tree.ensures.told))
 
 pub leaf_slots-requires : goal.leaf_slots-requires
 leaf_slots-requires c =
-    let a = c.args in
-    let t = flat a.leaves a.n a.entries.now a.filled.now in
-    let y = c.check_tree-number in
-    let tables = y.ensures.1 c.if-number-ne0.false in
-    (c.requires.0, children_most t a.n y.new.children (flatpack_closed a.leaves _) tables.1, tables.2)
+    let e = c.args.e in
+    let at = (goal.at.leaf_slots-requires c).In_ok-check_tree in
+    rw c.check_tree.ensures.nodes (children_most (read e) e.n _ (flatpack_closed e.leaves _) (filled at).nodes)
+
+-- the tables that are built from
+ready : (c : After-copy_qubits) → Filled (read c.args.e) c.args.e.n c.check_tree.new.tables.parents c.check_tree.new.children c.check_tree.new.tables.slots
+    → verdict c.args.e.leaves (read c.args.e) ≡ 0
+    → Ready c.args.e.leaves (read c.args.e) c.leaf_slots.new.tables.n c.args.w c.leaf_slots.new.tables.parents c.copy_qubits.new.columns c.leaf_slots.new.tables.slots
+ready c f z =
+    let e = c.args.e in
+    let n = c.check_tree.ensures.nodes in
+    let slots = rw n at (c.leaf_slots.ensures.slots (read e) (rw n f) z) in
+    rw (c.leaf_slots.ensures.nodes ∙ n, c.leaf_slots.ensures.parents)
+    (flat_ready e.leaves e.n c.args.w e.numbers.now e.filled.now _ _ _ _ f.wired c.copy_qubits.ensures c.requires.1 slots)
 
 pub build_rows-requires : goal.build_rows-requires
 build_rows-requires c =
-    let a = c.args in
-    let t = flat a.leaves a.n a.entries.now a.filled.now in
-    let y = c.check_tree-number in
-    let tables = y.ensures.1 c.if-number-ne0.false in
-    let slots = c.leaf_slots.ensures t y.new.parents tables.0 tables.1 (sym y.ensures.0 ∙ c.if-number-ne0.false) in
-    let ready = flat_ready a.leaves a.n a.w a.entries.now a.filled.now y.new.parents y.new.slots c.copy_qubits.new.columns c.leaf_slots.new.slots
-    tables.0 c.copy_qubits.ensures.1 c.requires.5 slots in
-    (c.requires.0, c.requires.1, (a.leaves, t, ready), c.requires.6, c.requires.7, c.requires.8)
+    let at = (goal.at.build_rows-requires c).In_ok-check_tree in
+    let n = c.leaf_slots.ensures.nodes ∙ c.check_tree.ensures.nodes in (
+      c.requires.0,
+      (c.args.e.leaves, read c.args.e, ready (goal.at.build_rows-requires c).After-copy_qubits (filled at) (passed at)),
+      rw n c.requires.2,
+      rw n c.requires.3,
+      rw n c.requires.4,
+    )
 
 pub returns : goal.returns
 returns c =
-    let a = c.args in
-    let t = flat a.leaves a.n a.entries.now a.filled.now in
-    let y = c.check_tree-number in
-    let tables = y.ensures.1 c.if-number-ne0.false in
-    let passed = sym y.ensures.0 ∙ c.if-number-ne0.false in
-    let slots = c.leaf_slots.ensures t y.new.parents tables.0 tables.1 passed in
-    let ready = flat_ready a.leaves a.n a.w a.entries.now a.filled.now y.new.parents y.new.slots c.copy_qubits.new.columns c.leaf_slots.new.slots
-    tables.0 c.copy_qubits.ensures.1 c.requires.5 slots in
-    tree_passed a.leaves t a.w _ _ _ _ _ _ _ _ _ (flatpack_closed a.leaves _) (verdict_passes a.leaves t passed) (c.build_rows.ensures a.leaves t ready)
+    let at = (goal.at.returns c).In_ok-check_tree in
+    let e = c.args.e in
+    tree_passed e.leaves (read e) c.args.w _ _ _ _ _ _ _ _ _ (flatpack_closed e.leaves _) (verdict_passes e.leaves (read e) (passed at))
+    (c.build_rows.ensures e.leaves (read e) (ready (goal.at.returns c).After-copy_qubits (filled at) (passed at)))

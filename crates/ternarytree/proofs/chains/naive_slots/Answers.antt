@@ -1,34 +1,28 @@
 -- `naive_slots` meets its contract: the rows before m have their slots.
-use Prim.Native.Nat.{suc, ◌+◌}
-use native.Mathlib.Numerals.{add-one}
-use native.Mathlib.Omega.{arith}
-use mathlib.Core.Path.{◌≡◌, ap, ◌∙◌}
-use mathlib.Core.Bool.{false}
-use borrow.Author.Count.{below_more}
-use lib.ListN.{length-set}
+use Rattle.std.proofs.Common.{◌≡◌, suc, ◌+◌, false, ap, ◌∙◌, add-one, arith, below_more}
 use Rattle.trees.specs.Leaves.{slot_of}
 use Rattle.ternarytree.proofs.Codes.{in_order}
 use Rattle.ternarytree.proofs.chains.naive_slots.Goals as goal
-
-pub loop-m-init : goal.loop-m-init
-loop-m-init c = (omega arith, c.requires.2, λ t w. (λ j h. absurd (omega arith), λ j h. absurd (omega arith)))
 
 pub loop-m-preserved : goal.loop-m-preserved
 unfolding slot_of
 loop-m-preserved c =
     let l = c.loop-m in
-    let y = c.chain_end-k in (
-      omega arith,
-      simp length-set l.invariant.1,
-      λ t w.
+    let y = c.chain_end in
+    record {
+      nodes = l.invariant.nodes;
+      parents = l.invariant.parents;
+      slots = λ t w.
           let e : y.result ≡ slot_of false t l.m = y.ensures.1 t w in
-          let r = l.invariant.2 t w in (
-            in_order (λ j. suc (slot_of false t j)) l.slots l.m (y.result + 1) r.0 (omega arith) (add-one y.result ∙ ap suc e),
+          let r = l.invariant.slots t w in (
+            in_order (λ j. suc (slot_of false t j)) l.tables.slots l.m (y.result + 1) r.0 (omega arith) (add-one y.result ∙ ap suc e),
             below_more _ l.m r.1 (rw (← e) y.ensures.0),
-          ),
-    )
+          );
+    }
 
-pub returns : goal.returns
-returns c =
-    let l = c.loop-m in
-    (l.invariant.1, λ t w m h. ((l.invariant.2 t w).0 m (omega arith), (l.invariant.2 t w).1 m (omega arith)))
+pub returns-clause-slots : goal.returns-clause-slots
+returns-clause-slots c =
+    let l = c.loop-m.invariant in
+    λ t w m h.
+    let r = l.slots t (rw l.nodes w) in
+    (r.0 m (omega (arith, l.nodes)), omega (arith, r.1 m (omega (arith, l.nodes)), l.nodes))

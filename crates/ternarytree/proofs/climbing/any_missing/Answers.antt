@@ -1,18 +1,22 @@
--- `any_missing` meets its contract: no leaf before m is missing.
-use native.Mathlib.Omega.{arith}
-use mathlib.Core.Path.{sym}
-use borrow.Author.Count.{below_more}
+-- `any_missing` meets its contract: a 0 among the slots is a leaf that has none.
+use Rattle.std.proofs.Common.{◌≡◌, ℕ, ◌*◌, ◌<◌, ◌≤◌, Bool, true, false, List, length, take, sym, ◌∙◌, eqb, MatchBool, arith}
+use Rattle.std.specs.List.{HoldsAt, AllWithin}
+use Rattle.std.proofs.lemmas.List.{get_or-take}
+use borrow.Author.Tests.{eqb-true, eqb-false}
+use lib.ListN.{length-take}
+use Rattle.trees.specs.Trees.{Tree, missing}
+use Rattle.ternarytree.specs.Tables.{Wired}
 use Rattle.ternarytree.proofs.ClimbSteps.{leaf_missing, none_missing}
 use Rattle.ternarytree.proofs.climbing.any_missing.Goals as goal
 
-pub loop-m-init : goal.loop-m-init
-loop-m-init c = (omega arith, λ j h. absurd (omega arith))
-
-pub returns-then-slots-m-eq0 : goal.returns-then-slots-m-eq0
-returns-then-slots-m-eq0 c = λ t ps w. sym (leaf_missing t c.args.n ps c.args.slots.now w c.loop-m.m c.loop-m-test.true c.if-slots-m-eq0.true)
-
-pub loop-m-preserved : goal.loop-m-preserved
-loop-m-preserved c = (omega arith, below_more _ _ c.loop-m.invariant.1 c.if-slots-m-eq0.false)
+zero_found : (t : Tree) (n : ℕ) (ps ls : List ℕ) (r : Bool) → Wired t n (3 * n) ps ls → n ≤ 256 → length ls ≡ 512
+    → MatchBool r ((k : ℕ) × (k < length (take (2 * n) ls)) × HoldsAt (λ y. eqb y 0 ≡ true) (take (2 * n) ls) k) (AllWithin (λ y. eqb y 0 ≡ false) (take (2 * n) ls) 0 (length (take (2 * n) ls)))
+    → r ≡ missing t
+zero_found t n ps ls true w few len (k, low, at) =
+    let small : k < 2 * n = omega (arith, length-take (2 * n) ls) in
+    sym (leaf_missing t n ps ls w k small (sym (get_or-take (2 * n) ls k 0 small) ∙ eqb-true _ 0 (at 0)))
+zero_found t n ps ls false w few len all =
+    sym (none_missing t n ps ls w (λ m h z. eqb-false _ 0 (all m 0 (omega arith) (omega (arith, length-take (2 * n) ls))) (get_or-take (2 * n) ls m 0 h ∙ z)))
 
 pub returns : goal.returns
-returns c = λ t ps w. sym (none_missing t c.args.n ps c.args.slots.now w (λ m h. c.loop-m.invariant.1 m (omega arith)))
+returns c = λ t ps w. zero_found t _ ps _ _ w (omega arith) (omega arith) c.contains.ensures.cases

@@ -1,21 +1,20 @@
 -- `place_leaf` meets its contract: by whether the row has a slot.
-use native.Mathlib.Omega.{arith}
-use mathlib.Core.Path.{sym}
-use lib.ListN.{length-set}
+use Rattle.std.proofs.Common.{sym, ap, arith}
+use Rattle.refusal.specs.Numbers.{bare}
 use Rattle.ternarytree.proofs.PlaceSteps.{taken_leaf, new_leaf, leaf_marked}
 use Rattle.ternarytree.proofs.reading.place_leaf.Goals as goal
 
-pub returns-then-slots-m-ne0 : goal.returns-then-slots-m-ne0
-returns-then-slots-m-ne0 c =
+pub returns-then-slots-m-ne0-clause-told : goal.returns-then-slots-m-ne0-clause-told
+returns-then-slots-m-ne0-clause-told c =
     let a = c.args in
-    (c.requires.3, λ t z e w. (sym (taken_leaf t a.n a.k a.m a.slots.now z e w c.requires.1 c.if-slots-m-ne0.true), λ z. absurd (omega arith)))
+    λ t n size l e w. sym (ap bare (taken_leaf t n a.k a.m a.slots.now size e w l c.if-slots-m-ne0.true))
 
-pub returns : goal.returns
-returns c =
-    let a = c.args in (
-      simp length-set c.requires.3,
-      λ t z e w. (
-        sym (new_leaf t a.n a.k a.m a.slots.now z e w c.requires.1 c.if-slots-m-ne0.false),
-        λ q. leaf_marked t a.n a.k a.m a.slots.now z e w c.requires.1 c.requires.3 c.requires.0 c.if-slots-m-ne0.false,
-      ),
-    )
+pub returns-clause-told : goal.returns-clause-told
+returns-clause-told c =
+    let a = c.args in
+    λ t n size l e w. sym (ap bare (new_leaf t n a.k a.m a.slots.now size e w l c.if-slots-m-ne0.false))
+
+pub returns-clause-holds : goal.returns-clause-holds
+returns-clause-holds c =
+    let a = c.args in
+    λ t n size l b e w z. leaf_marked t n a.k a.m a.slots.now size e w l (omega arith) b c.if-slots-m-ne0.false

@@ -1,26 +1,25 @@
 -- `place_node` meets its contract: test by test.
-use native.Mathlib.Omega.{arith}
-use mathlib.Core.Path.{sym}
-use lib.ListN.{length-set}
+use Rattle.std.proofs.Common.{sym, ap, arith}
+use Rattle.refusal.specs.Numbers.{bare}
 use Rattle.ternarytree.proofs.PlaceSteps.{own_node, taken_node, new_node, node_marked}
 use Rattle.ternarytree.proofs.reading.place_node.Goals as goal
 
-pub returns-then-j-k : goal.returns-then-j-k
-returns-then-j-k c =
+pub returns-then-j-k-clause-told : goal.returns-then-j-k-clause-told
+returns-then-j-k-clause-told c =
     let a = c.args in
-    (c.requires.3, λ t e w. (sym (own_node t a.n a.k a.j a.parents.now e c.requires.1 w c.if-j-k.true), λ z. absurd (omega arith)))
+    λ t n l e w. sym (ap bare (own_node t n a.k a.j a.parents.now e l w c.if-j-k.true))
 
-pub returns-then-parents-j-ne0 : goal.returns-then-parents-j-ne0
-returns-then-parents-j-ne0 c =
+pub returns-then-parents-j-ne0-clause-told : goal.returns-then-parents-j-ne0-clause-told
+returns-then-parents-j-ne0-clause-told c =
     let a = c.args in
-    (c.requires.3, λ t e w. (sym (taken_node t a.n a.k a.j a.parents.now e c.requires.1 w c.if-j-k.false c.if-parents-j-ne0.true), λ z. absurd (omega arith)))
+    λ t n l e w. sym (ap bare (taken_node t n a.k a.j a.parents.now e l w c.if-j-k.false c.if-parents-j-ne0.true))
 
-pub returns : goal.returns
-returns c =
-    let a = c.args in (
-      simp length-set c.requires.3,
-      λ t e w. (
-        sym (new_node t a.n a.k a.j a.parents.now e c.requires.1 w c.if-j-k.false c.if-parents-j-ne0.false),
-        λ z. node_marked t a.n a.k a.j a.parents.now e c.requires.1 w c.requires.3 c.requires.0 c.if-parents-j-ne0.false,
-      ),
-    )
+pub returns-clause-told : goal.returns-clause-told
+returns-clause-told c =
+    let a = c.args in
+    λ t n l e w. sym (ap bare (new_node t n a.k a.j a.parents.now e l w c.if-j-k.false c.if-parents-j-ne0.false))
+
+pub returns-clause-holds : goal.returns-clause-holds
+returns-clause-holds c =
+    let a = c.args in
+    λ t n l b e w z. node_marked t n a.k a.j a.parents.now e l w (omega arith) b c.if-parents-j-ne0.false

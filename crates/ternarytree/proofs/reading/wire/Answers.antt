@@ -1,73 +1,88 @@
 -- `wire` meets its contract: `Wiring` holds of the slots before k.
-use native.Mathlib.Omega.{arith}
-use mathlib.Core.Path.{◌≡◌, refl, ◌∙◌, sym}
+use Rattle.std.proofs.Common.{◌≡◌, refl, sym, ap, ◌∙◌, arith}
 use lib.ListN.{get_or-replicate}
-use Rattle.ternarytree.specs.Building.{flat, fault_slot}
-use Rattle.ternarytree.specs.Tables.{slot_verdict}
+use Rattle.refusal.specs.Numbers.{bare, paper, answered}
+use Rattle.trees.specs.Trees.{fault_of}
+use Rattle.ternarytree.specs.Building.{fault_slot}
+use Rattle.ternarytree.specs.Reading.{read}
+use Rattle.ternarytree.specs.Tables.{Wired, slot_verdict}
 use Rattle.ternarytree.proofs.WireSteps.{wired_none, wiring_child, wiring_below, wiring_fault, wiring_next, wiring_end}
 use Rattle.ternarytree.proofs.reading.wire.Goals as goal
-use Rattle.ternarytree.proofs.reading.wire.Goals.{After-child_in-o}
+use Rattle.ternarytree.proofs.reading.wire.Goals.{After-child_in-o, In-Err}
 
-held : (c : After-child_in-o) → (flat c.args.leaves c.args.n c.args.entries.now c.args.filled.now).child c.loop-k.k ≡ c.child_in-o.result
-held c =
-    wiring_child _ _ _ _ _ _ _ _ _ _ c.loop-k.invariant c.requires.3 c.slot_at.result c.child_in-o.result c.slot_at.ensures c.child_in-o.ensures
+held : (c : After-child_in-o) → (read c.args.e).child c.loop-k.k ≡ c.child_in-o.result
+held c = wiring_child _ _ _ _ _ _ _ c.loop-k.invariant.1 (omega arith) c.slot.result c.child_in-o.result c.slot.ensures c.child_in-o.ensures
 
 pub enter-requires : goal.enter-requires
-enter-requires c = let p = c.requires in (p.0, p.1, p.3, λ j h. get_or-replicate 256 j 0 0 h, refl)
+enter-requires c = λ j h. get_or-replicate 256 j 0 0 h
 
-pub returns-then-enter : goal.returns-then-enter
-unfolding slot_verdict fault_slot
-returns-then-enter c = let twice = sym c.enter.ensures.1 ∙ c.if-enter.true in (rw twice, λ z. absurd (omega arith), rw twice)
+pub returns-then-enter-clause-told : goal.returns-then-enter-clause-told
+unfolding slot_verdict
+returns-then-enter-clause-told c = rw (sym c.enter.ensures.twice ∙ c.if-enter.true)
+
+pub returns-then-enter-clause-slot : goal.returns-then-enter-clause-slot
+unfolding fault_slot
+returns-then-enter-clause-slot c = rw (sym c.enter.ensures.twice ∙ c.if-enter.true)
 
 pub loop-k-init : goal.loop-k-init
-loop-k-init c =
-    let r = c.enter.ensures in
-    let no = c.if-enter.false in
-    record {
-      some_left = omega arith;
-      table_length = r.0;
-      holds = r.2 no;
-      top_is = c.past_all-top.ensures.1;
-      ps_length = c.requires.5;
-      cs_length = c.requires.6;
-      ls_length = c.requires.8;
-      once = sym r.1 ∙ no;
-      wired = wired_none _ c.args.n c.args.parents.now c.args.slots.now refl c.requires.0 c.requires.4 c.requires.7;
-      nodes = λ j h. absurd (omega arith);
-      before = λ j h. absurd (omega arith);
-    }
+loop-k-init c = (
+  c.requires.nodes,
+  record {
+    holds = c.enter.ensures.holds c.if-enter.false;
+    top_is = c.past_all-top.ensures;
+    once = sym c.enter.ensures.twice ∙ c.if-enter.false;
+    wired = wired_none _ _ _ _ refl (omega (arith, c.args.e.some)) c.requires.parents c.requires.slots;
+    nodes = λ j h. absurd (omega arith);
+    before = λ j h. absurd (omega arith);
+  },
+)
 
 pub node_code-requires : goal.node_code-requires
-node_code-requires c = (
-  c.requires.0,
-  wiring_below _ _ _ _ _ _ _ _ _ _ c.loop-k.invariant c.child_in-o.result (held (goal.at.node_code-requires c).After-child_in-o),
-)
+node_code-requires c = λ j h. omega (arith, wiring_below _ _ _ _ _ _ _ c.loop-k.invariant.1 c.child_in-o.result (held (goal.at.node_code-requires c).After-child_in-o) j h, c.args.e.some)
 
-pub place-number-requires : goal.place-number-requires
-place-number-requires c = (
-  c.requires.0,
-  c.loop-k-test.true,
-  wiring_below _ _ _ _ _ _ _ _ _ _ c.loop-k.invariant c.child_in-o.result (held (goal.at.place-number-requires c).After-child_in-o),
-  c.loop-k.invariant.ps_length,
-  c.loop-k.invariant.ls_length,
-)
+pub place-requires : goal.place-requires
+place-requires c =
+    let at = held (goal.at.place-requires c).After-child_in-o in
+    let n = c.loop-k.invariant.0 in
+    (omega (arith, n, c.loop-k-test.true), λ j h. omega (arith, wiring_below _ _ _ _ _ _ _ c.loop-k.invariant.1 c.child_in-o.result at j h, n))
 
-pub returns-then-number-ne0 : goal.returns-then-number-ne0
-returns-then-number-ne0 c =
-    let y = c.place-number in
-    let at = held (goal.at.returns-then-number-ne0 c).After-child_in-o in
-    let q = y.ensures.2 (flat c.args.leaves c.args.n c.args.entries.now c.args.filled.now) at c.loop-k.invariant.wired in
-    let r = wiring_fault _ _ _ _ _ _ _ _ _ _ c.loop-k.invariant c.child_in-o.result y.result c.loop-k-test.true at q.0 c.if-number-ne0.true in
-    (r.0, λ z. absurd (c.if-number-ne0.true z), r.1)
+-- the fault of slot k
+why_is : (c : In-Err) → paper c.in-Err.why ≡ bare (fault_of (read c.args.e) c.loop-k.k c.child_in-o.result)
+why_is c =
+    let at = wiring_child _ _ _ _ _ _ _ c.loop-k.invariant.1 (omega arith) c.slot.result c.child_in-o.result c.slot.ensures c.child_in-o.ensures in
+    ap answered (sym c.in-Err.is) ∙ c.place.ensures.told (read c.args.e) at (rw c.loop-k.invariant.0 c.loop-k.invariant.1.wired)
+
+pub returns-in-Err-clause-told : goal.returns-in-Err-clause-told
+returns-in-Err-clause-told c =
+    let at = held (goal.at.returns-in-Err-clause-told c).After-child_in-o in
+    (wiring_fault _ _ _ _ _ _ _ c.loop-k.invariant.1 _ c.in-Err.why c.loop-k-test.true at (why_is c)).0
+
+pub returns-in-Err-clause-slot : goal.returns-in-Err-clause-slot
+returns-in-Err-clause-slot c =
+    let at = held (goal.at.returns-in-Err-clause-slot c).After-child_in-o in
+    (wiring_fault _ _ _ _ _ _ _ c.loop-k.invariant.1 _ c.in-Err.why c.loop-k-test.true at (why_is c)).1
 
 pub loop-k-preserved : goal.loop-k-preserved
 loop-k-preserved c =
-    let y = c.place-number in
     let at = held (goal.at.loop-k-preserved c).After-child_in-o in
-    let q = y.ensures.2 (flat c.args.leaves c.args.n c.args.entries.now c.args.filled.now) at c.loop-k.invariant.wired in
-    wiring_next _ _ _ _ _ _ _ _ _ _ c.loop-k.invariant c.child_in-o.result y.result c.node_code.result _ _ c.requires.0 c.loop-k-test.true
-    at c.node_code.ensures q.0 c.if-number-ne0.false y.ensures.0 y.ensures.1 (q.1 c.if-number-ne0.false)
+    let t = read c.args.e in
+    let l = c.loop-k in
+    let n = l.invariant.0 in
+    let y = c.place.ensures in
+    let before : Wired t l.tables.n l.k l.tables.parents l.tables.slots = rw n l.invariant.1.wired in
+    let after = rw (y.nodes ∙ n) at (y.wired t at before c.in_default.is) in (
+      y.nodes ∙ n,
+      wiring_next _ _ _ _ _ _ _ l.invariant.1 c.child_in-o.result c.place.result c.node_code.result _ _ (omega arith) c.loop-k-test.true at
+          c.node_code.ensures (y.told t at before) c.in_default.is after,
+    )
 
-pub returns : goal.returns
-returns c =
-    wiring_end _ _ _ _ _ _ _ _ _ _ c.loop-k.invariant c.loop-k-test.false
+pub returns-clause-told : goal.returns-clause-told
+returns-clause-told c = (wiring_end _ _ _ _ _ _ _ c.loop-k.invariant.1 (omega arith)).0
+
+pub returns-clause-slot : goal.returns-clause-slot
+returns-clause-slot c = (wiring_end _ _ _ _ _ _ _ c.loop-k.invariant.1 (omega arith)).1
+
+pub returns-clause-filled : goal.returns-clause-filled
+returns-clause-filled c =
+    let (told, slot, wired, nodes) = wiring_end _ _ _ _ _ _ _ c.loop-k.invariant.1 (omega arith) in
+    λ z. record { wired = wired; nodes = nodes }

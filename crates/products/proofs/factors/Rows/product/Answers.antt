@@ -1,0 +1,27 @@
+-- `Rows::product` meets its contract: the product in local words, which start at zero, copied, and its letter power.
+use mathlib.Core.Path.{ap, ◌∙◌}
+use lib.Seq.{length-take-le}
+use borrow.Author.Rules.{rules}
+use Rattle.algebra.specs.Rows.{Row}
+use Rattle.pauli.specs.Phases.{row_power}
+use Rattle.products.proofs.ProductAnswers.{copied_to}
+use Rattle.majorana.proofs.SetLaws.{zeros}
+use Rattle.products.proofs.factors.Rows.product.Goals as goal
+
+pub multiply-f-requires : goal.multiply-f-requires
+multiply-f-requires c =
+    let w = c.args.self.fits.words in
+    (c.requires.0, length-take-le _ _ w, length-take-le _ _ w, zeros c.args.self.w, zeros c.args.self.w)
+
+pub returns-clause-letters : goal.returns-clause-letters
+returns-clause-letters c = c.letter_power.ensures ∙ ap row_power c.multiply-f.ensures
+
+pub returns-clause-x_part : goal.returns-clause-x_part
+returns-clause-x_part c =
+    copied_to c.args.ox.now c.copy_from_slice.ensures.after (c.multiply-f.auto.ax ∙ length-take-le _ _ c.args.self.fits.words) (search rules)
+    (ap (λ (r : Row). r.x) c.multiply-f.ensures)
+
+pub returns-clause-z_part : goal.returns-clause-z_part
+returns-clause-z_part c =
+    copied_to c.args.oz.now c.copy_from_slice-2.ensures.after (c.multiply-f.auto.az ∙ length-take-le _ _ c.args.self.fits.words) (search rules)
+    (ap (λ (r : Row). r.z) c.multiply-f.ensures)

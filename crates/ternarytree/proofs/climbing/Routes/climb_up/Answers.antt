@@ -1,0 +1,39 @@
+-- `climb_up` meets its contract: the steps that are left lead from `at`, from which i hangs, to where n steps lead from i.
+use native.Mathlib.Omega.{arith}
+use mathlib.Core.Path.{◌≡◌, refl, ◌∙◌, sym}
+use Rattle.trees.specs.Hanging.{itself}
+use Rattle.trees.proofs.OneRoot.{hangs_through}
+use Rattle.ternarytree.proofs.ClimbSteps.{climb_none, climb_stop, climb_step, hangs_step}
+use Rattle.ternarytree.proofs.climbing.Routes.climb_up.Goals as goal
+
+pub loop-left-init : goal.loop-left-init
+loop-left-init c = (omega arith, omega arith, λ t p. (itself refl, refl))
+
+pub returns-then-up-eq0 : goal.returns-then-up-eq0
+returns-then-up-eq0 c =
+    let l = c.loop-left in
+    (l.invariant.0, λ t p. ((l.invariant.2 t p).0, λ h. sym ((l.invariant.2 t p).1 ∙ climb_stop t l.left l.at _ (p.ups l.at l.invariant.0) c.if-up-eq0.true)))
+
+pub returns-then-at-i : goal.returns-then-at-i
+returns-then-at-i c =
+    let l = c.loop-left in (
+      omega (arith, c.args.self.now.within l.at l.invariant.0),
+      λ t p. (hangs_through t (l.invariant.2 t p).0 (hangs_step t l.at _ (p.ups l.at l.invariant.0) c.if-up-eq0.false), λ h. absurd (omega (arith, h, c.if-at-i.true))),
+    )
+
+pub loop-left-preserved : goal.loop-left-preserved
+loop-left-preserved c =
+    let l = c.loop-left in (
+      omega (arith, c.args.self.now.within l.at l.invariant.0),
+      omega arith,
+      λ t p. (
+        hangs_through t (l.invariant.2 t p).0 (hangs_step t l.at _ (p.ups l.at l.invariant.0) c.if-up-eq0.false),
+        (l.invariant.2 t p).1 ∙ climb_step t l.left l.at _ (p.ups l.at l.invariant.0) c.if-up-eq0.false (omega arith),
+      ),
+    )
+
+pub returns : goal.returns
+returns c =
+    let l = c.loop-left in
+    let e : l.left ≡ 0 = omega arith in
+    (l.invariant.0, λ t p. ((l.invariant.2 t p).0, λ h. sym ((l.invariant.2 t p).1 ∙ climb_none t l.left l.at e)))
