@@ -107,8 +107,8 @@ show(1, 'other enums', (f'{f}:{n} {e}' for f, n, e, v in enums() if len(v) != 2)
 show(1, 'functions that hand back 0 for "none"', (
     at(x) for x in fns if x.result in ('usize', 'u8', 'u64') and re.search(r'return 0;|=> 0,|else \{\s*0\s*\}', x.body)))
 show(1, 'fields that say whether another holds', (
-    f'{f}:{line_of(f, m.start())} {m.group(1)}' for f in files
-    for m in re.finditer(r'^    pub (?:failed|number|line|step|commute): .*$|^    (failed|number|line|step): .*$', text[f], re.M)))
+    f'{f}:{line_of(f, m.start())} {m.group(0).strip()}' for f in files
+    for m in re.finditer(r'^    (?:pub )?(?:failed|number|line|step|commute): .*$', text[f], re.M)))
 show(1, 'tests of a number that says none or refused', (
     f'{f}:{line_of(f, m.start())} {m.group(0)}' for f in files
     for m in re.finditer(r'\b(?:number|line|e|up|next|first|table\[q\]|slots\[m\]|parents\[\w+\])(?:\(\))? [!=]= 0\b', text[f])))
@@ -125,6 +125,10 @@ show(2, 'names that differ in a number, or in a word for a type or a size', (
 show(3, 'loops that are no `for`', (
     f'{f}:{line_of(f, m.start(1))} {m.group(1).strip()}' for f in files
     for m in re.finditer(r'^\s*((?:\'\w+: )?(?:while|loop)\b[^\n]*)', text[f], re.M)))
+
+show(3, '`for` over a range of numbers', (
+    f'{f}:{line_of(f, m.start(1))} {m.group(1).strip()}' for f in files
+    for m in re.finditer(r'^\s*((?:\'\w+: )?for [^\n]* in [^\n]*\.\.[^\n]*)', text[f], re.M)))
 
 show(4, 'functions of one cast, one comparison or one write', (
     at(x) for x in fns if re.fullmatch(

@@ -62,7 +62,7 @@ pub fn apply_mode_enumeration(
     ensures { Enumerated (lent set.entry) vacuum.now map.now (outs ox.old oz.old ophases.old ovacuum.old room.old) result
         (outs ox.new oz.new ophases.new ovacuum.new room.new) }
 {
-    if majorana::bad_size(set.modes, set.qubits) {
+    if set.bad_size() {
         return Err(Refusal::Size);
     }
     let w = dense_block::words_for(set.qubits);

@@ -226,7 +226,8 @@ pub fn start() -> State
 
 // The state after a chunk more. The table gets the first 256 entries as their lines end, four numbers an entry: the
 // qubit, and for X, Y and Z the slot's number plus 1, or 0 if it is empty. After a text t, a chunk leads to what the
-// definition says of the text with the chunk added.
+// definition says of the text with the chunk added. The codes of the table stay: the clause says them of the caller's
+// slice (`kept`).
 #[tactic(auto, using(crate::proofs::Reading::feeds))]
 pub fn feed(s: State, chunk: &[u8], table: &mut [usize]) -> State
     ensures { Feeds s chunk.now table.old result table.new }

@@ -99,6 +99,9 @@ pub few_bad : (n q w : ℕ) (xs zs ps : List ℕ) → n ≤ 256 → many_or_bad 
 unfolding many_or_bad
 few_bad n q w xs zs ps a = rw (le-ltb 256 n a)
 
+pub rows_told : (n q w : ℕ) (xs zs ps : List ℕ) {b : Bool} → n ≤ 256 → many_or_bad n q w xs zs ps ≡ b → bad_rows n q w xs zs ps ≡ b
+rows_told n q w xs zs ps a h = sym (few_bad _ _ _ _ _ _ a) ∙ h
+
 -- phases, X parts and Z parts can be tested one after another
 pub bad_parts : (n q w : ℕ) (xs zs ps : List ℕ) → bad_rows n q w xs zs ps ≡ (some_below (2 * n) (λ k. ltb 3 (get_or ps k 0)) || (strays_in w xs (2 * n) q || strays_in w zs (2 * n) q))
 unfolding bad_rows bad_row_at strays_in
@@ -160,3 +163,11 @@ pub held_in : (n w : ℕ) (xs zs ps : List ℕ) (more : List Lent) → n ≤ 256
 held_in n w xs zs ps more a b h =
     let r = hold (set_lent n w (length xs) (length zs) (length ps) more) h in
     (record { modes = a; words = b; x_rows = r.0; z_rows = r.1.0; p_rows = r.1.1.0 }, r.1.1.1)
+
+-- rows that the public test of the lengths lets pass lie in their slices
+pub fits_of : (n w : ℕ) (xs zs ps : List ℕ) → many_or_short n w (length xs) (length zs) (length ps) ≡ false → Fits n w xs zs ps
+unfolding many_or_short
+fits_of n w xs zs ps h =
+    let s = short (set_lent n w (length xs) (length zs) (length ps) []) in
+    let t = or_right (ltb 256 n) (ltb 4 w || s) h in
+    (held_in n w xs zs ps [] (ltb-false 256 n (or_left (ltb 256 n) (ltb 4 w || s) h)) (ltb-false 4 w (or_left (ltb 4 w) s t)) (or_right (ltb 4 w) s t)).0

@@ -1,4 +1,4 @@
--- For the private functions, and needs no belief: what they ask of rows that passed the tests of the input.
+-- What is known of rows that passed the tests of the input.
 use Rattle.std.specs.Prelude.{ℕ, ◌*◌, ◌^◌, ◌≤◌, ◌<◌, List, length, get_or}
 use Rattle.majorana.specs.declared.RowSet.{RowSet}
 

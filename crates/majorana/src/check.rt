@@ -10,8 +10,8 @@ ghost use Rattle.majorana.specs.Held.{FitsIn};
 ghost use Rattle.majorana.specs.HeldRows.{modes_of};
 ghost use Rattle.majorana.specs.Rooms.{pair_of, Loaded, Same, task_checked, value_checked};
 
+use crate::RowSet;
 use crate::rows::Rows;
-use crate::{RowSet, rows};
 use pauli::Row;
 use refusal::Refusal;
 
@@ -98,7 +98,7 @@ pub fn check_lent(set: RowSet, w: usize, v: &[u64], room: &mut [u64]) -> Result<
         (task_checked (modes_in set.entry w) (value v.now)))
         × Same (2 * set.entry.modes * (w + w)) room.old room.new }
 {
-    if rows::bad(set, w) || dense_block::stray(v, set.qubits) {
+    if set.bad_rows(w) || dense_block::stray(v, set.qubits) {
         return Err(Refusal::Value);
     }
     check_held(&Rows::of(set, w), v, room)

@@ -1,7 +1,8 @@
 // Row sets: n modes on q qubits, two rows a mode.
 //
-//   bad_size                     whether 1 refuses these sizes
-//   rows_short, bad_rows         the part of 2 and of 17 that is about the rows
+//   RowSet::bad_size             whether 1 refuses its sizes
+//   RowSet::rows_short, bad_rows the part of 2 and of 17 that is about the rows
+//   RowSet::rows                 the rows that pass both
 //   check_rows                   10, 11 or 13 unless rows anticommute, are independent, and the vacuum rule holds
 //   check_vacuum                 13 unless the vacuum rule holds at the given string
 //   determine_vacuum_state       the string that meets the vacuum rule, or 12
@@ -23,16 +24,17 @@ mod rows;
 mod vacuum;
 mod walk;
 
-ghost use Rattle.std.specs.Prelude.{◌≡◌};
+ghost use Rattle.std.specs.Prelude.{◌≡◌, length};
 ghost use Rattle.refusal.specs.Numbers.{answered};
 ghost use Rattle.majorana.specs.Sets.{lent, bad_size, many_or_short, many_or_bad};
+ghost use Rattle.majorana.specs.HeldRows.{RowsMade};
 ghost use Rattle.majorana.specs.Checks.{vacuum_checked, RowsChecked};
 ghost use Rattle.majorana.specs.Vacuums.{Solves, Makes};
 ghost use Rattle.majorana.specs.Codes.{Encodes, Decodes};
 
 use pauli::Phase;
 use refusal::{Lent, Refusal};
-use rows::Rows;
+pub use rows::Rows;
 
 // A row set as it is lent.
 #[derive(Clone, Copy)]
@@ -44,45 +46,66 @@ pub struct RowSet<'a> {
     pub phases: &'a [u8],
 }
 
-// Whether modes or qubits are 0 or above 256.
-pub fn bad_size(modes: usize, qubits: usize) -> bool
-    ensures { result ≡ bad_size modes qubits }
-{
-    refusal::outside(modes) || refusal::outside(qubits)
-}
-
-// Whether slices of these lengths are too short for the rows; more than 256 modes, or more than 4 words a row, are too
-// much for slices of any length. It takes lengths, and no set, since outputs are tested by it too.
-pub fn rows_short(modes: usize, w: usize, x: usize, z: usize, p: usize) -> bool
-    ensures { result ≡ many_or_short modes w x z p }
-{
-    if 256 < modes || 4 < w {
-        return true;
+// The part of the tests 1, 2 and 17 that is about the rows. They ask nothing, and are true as well of what 1 refuses.
+impl<'a> RowSet<'a> {
+    // Whether modes or qubits are 0 or above 256.
+    pub fn bad_size(&self) -> bool
+        ensures { result ≡ bad_size self.now.modes self.now.qubits }
+    {
+        refusal::outside(self.modes) || refusal::outside(self.qubits)
     }
-    let rows = 2 * modes;
-    let size = rows * w;
-    refusal::any_short(&[Lent(size, x), Lent(size, z), Lent(rows, p)])
-}
 
-// Whether one of the rows has a phase above 3 or a bit past the last column, or there are more than 256 modes. What lies
-// past the end of a slice counts as 0. A call of other crates, which asks nothing: hence not one of a set and its w.
-pub fn bad_rows(modes: usize, qubits: usize, w: usize, x: &[u64], z: &[u64], phases: &[u8]) -> bool
-    ensures { result ≡ many_or_bad modes qubits w x.now z.now phases.now }
-{
-    if 256 < modes {
-        return true;
+    // Whether the slices are too short for rows of w words a part; more than 256 modes, or more than 4 words, are too much
+    // for slices of any length.
+    pub fn rows_short(&self, w: usize) -> bool
+        ensures { result ≡ many_or_short self.now.modes w (length self.now.x.now) (length self.now.z.now)
+            (length self.now.phases.now) }
+    {
+        if 256 < self.modes || 4 < w {
+            return true;
+        }
+        let rows = 2 * self.modes;
+        let size = rows * w;
+        refusal::any_short(&[
+            Lent(size, self.x.len()),
+            Lent(size, self.z.len()),
+            Lent(rows, self.phases.len()),
+        ])
     }
-    let count = 2 * modes;
-    rows::bad_phase(phases, count)
-        || dense_block::stray_block(x, w, count, qubits)
-        || dense_block::stray_block(z, w, count, qubits)
+
+    // Whether one of the rows has a phase above 3 or a bit past the last column, or there are more than 256 modes. What
+    // lies past the end of a slice counts as 0.
+    pub fn bad_rows(&self, w: usize) -> bool
+        ensures { result ≡ many_or_bad self.now.modes self.now.qubits w self.now.x.now self.now.z.now self.now.phases.now }
+    {
+        if 256 < self.modes {
+            return true;
+        }
+        let count = 2 * self.modes;
+        rows::bad_phase(self.phases, count)
+            || dense_block::stray_block(self.x, w, count, self.qubits)
+            || dense_block::stray_block(self.z, w, count, self.qubits)
+    }
+
+    // The rows, of w words a part: 2 if the slices are too short for them, 17 if one of them is bad.
+    pub fn rows(&self, w: usize) -> Result<Rows<'a>, Refusal>
+        ensures { RowsMade self.now w result }
+    {
+        if self.rows_short(w) {
+            return Err(Refusal::Short);
+        }
+        if self.bad_rows(w) {
+            return Err(Refusal::Value);
+        }
+        Ok(Rows::of(*self, w))
+    }
 }
 
 // Whether the vacuum rule holds at `vacuum`.
 pub fn check_vacuum(set: RowSet, vacuum: &[u64]) -> Result<(), Refusal>
     ensures { answered result ≡ vacuum_checked (lent set.entry) vacuum.now }
 {
-    if bad_size(set.modes, set.qubits) {
+    if set.bad_size() {
         return Err(Refusal::Size);
     }
     let w = dense_block::words_for(set.qubits);
@@ -90,7 +113,7 @@ pub fn check_vacuum(set: RowSet, vacuum: &[u64]) -> Result<(), Refusal>
         return Err(Refusal::Short);
     }
     let v = &vacuum[..w];
-    if rows::bad(set, w) || dense_block::stray(v, set.qubits) {
+    if set.bad_rows(w) || dense_block::stray(v, set.qubits) {
         return Err(Refusal::Value);
     }
     let rows = Rows::of(set, w);
@@ -106,7 +129,7 @@ pub fn check_vacuum(set: RowSet, vacuum: &[u64]) -> Result<(), Refusal>
 pub fn check_rows(set: RowSet, vacuum: &[u64], room: &mut [u64]) -> Result<(), Refusal>
     ensures { RowsChecked (lent set.entry) vacuum.now room.old result room.new }
 {
-    if bad_size(set.modes, set.qubits) {
+    if set.bad_size() {
         return Err(Refusal::Size);
     }
     let w = dense_block::words_for(set.qubits);
@@ -130,7 +153,7 @@ pub fn determine_vacuum_state(
 ) -> Result<(), Refusal>
     ensures { Solves (lent set.entry) vacuum.old room.old result vacuum.new room.new }
 {
-    if bad_size(set.modes, set.qubits) {
+    if set.bad_size() {
         return Err(Refusal::Size);
     }
     let w = dense_block::words_for(set.qubits);
@@ -149,7 +172,7 @@ pub fn determine_vacuum_state(
 pub fn new(set: RowSet, vacuum: &mut [u64], room: &mut [u64]) -> Result<(), Refusal>
     ensures { Makes (lent set.entry) vacuum.old room.old result vacuum.new room.new }
 {
-    if bad_size(set.modes, set.qubits) {
+    if set.bad_size() {
         return Err(Refusal::Size);
     }
     let w = dense_block::words_for(set.qubits);
@@ -173,7 +196,7 @@ pub fn try_encode(
 ) -> Result<Phase, Refusal>
     ensures { Encodes (lent set.entry) vacuum.now list.now out.old result out.new }
 {
-    if bad_size(set.modes, set.qubits) {
+    if set.bad_size() {
         return Err(Refusal::Size);
     }
     let w = dense_block::words_for(set.qubits);
@@ -188,7 +211,7 @@ pub fn try_encode(
     }
     let v = &vacuum[..w];
     let l = &list[..lw];
-    if rows::bad(set, w) || dense_block::stray(v, set.qubits) || dense_block::stray(l, set.modes) {
+    if set.bad_rows(w) || dense_block::stray(v, set.qubits) || dense_block::stray(l, set.modes) {
         return Err(Refusal::Value);
     }
     coding::encode(&Rows::of(set, w), v, l, out)
@@ -204,7 +227,7 @@ pub fn decode_zbasis_state(
 ) -> Result<(), Refusal>
     ensures { Decodes (lent set.entry) vacuum.now string.now out.old result out.new }
 {
-    if bad_size(set.modes, set.qubits) {
+    if set.bad_size() {
         return Err(Refusal::Size);
     }
     let w = dense_block::words_for(set.qubits);
@@ -219,7 +242,7 @@ pub fn decode_zbasis_state(
     }
     let v = &vacuum[..w];
     let s = &string[..w];
-    if rows::bad(set, w) || dense_block::stray(v, set.qubits) || dense_block::stray(s, set.qubits) {
+    if set.bad_rows(w) || dense_block::stray(v, set.qubits) || dense_block::stray(s, set.qubits) {
         return Err(Refusal::Value);
     }
     coding::decode(&Rows::of(set, w), v, s, out)

@@ -14,7 +14,7 @@ impl<'a> Rows<'a> {
     ghost use Rattle.majorana.specs.Walks.{Looked};
 
     // The phase difference d of mode i.
-    pub fn difference(&self, i: usize) -> u8
+    pub(crate) fn difference(&self, i: usize) -> u8
         requires { i < self.now.set.modes }
         ensures { result ≡ d (modes_of self.now) i }
     {
@@ -31,7 +31,7 @@ impl<'a> Rows<'a> {
     }
 
     // Whether every mode is paired.
-    pub fn all_paired(&self) -> bool
+    pub(crate) fn all_paired(&self) -> bool
         ensures { result ≡ all_paired (modes_of self.now) }
     {
         for i in 0..self.set.modes {
@@ -43,7 +43,7 @@ impl<'a> Rows<'a> {
     }
 
     // What a walk along the rows of mode i tells of the state s.
-    pub fn look(&self, i: usize, s: &[u64]) -> Walk
+    pub(crate) fn look(&self, i: usize, s: &[u64]) -> Walk
         requires { (i < self.now.set.modes) × (length s.now ≡ self.now.w) }
         ensures { Looked (modes_of self.now) i (value s.now) result }
     {
@@ -52,7 +52,7 @@ impl<'a> Rows<'a> {
 
     // The same, and the state s becomes what the first row of mode i makes of it. The phase of that is for the caller
     // to add.
-    pub fn act(&self, i: usize, s: &mut [u64]) -> Walk
+    pub(crate) fn act(&self, i: usize, s: &mut [u64]) -> Walk
         requires { (i < self.now.set.modes) × (length s.old ≡ self.now.w) }
         ensures { Looked (modes_of self.now) i (value s.old) result
             × (value s.new ≡ state (lo (modes_of self.now) i) (value s.old)) }
@@ -61,7 +61,7 @@ impl<'a> Rows<'a> {
     }
 
     // Whether every mode is empty in the state v.
-    pub fn vacuum_rule(&self, v: &[u64]) -> bool
+    pub(crate) fn vacuum_rule(&self, v: &[u64]) -> bool
         requires { length v.now ≡ self.now.w }
         ensures { result ≡ vacuum_rule (modes_of self.now) (value v.now) }
     {

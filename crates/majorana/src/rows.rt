@@ -1,24 +1,23 @@
 // The tests that every call shares, and the rows of a set that passed them.
 
-ghost use Rattle.std.specs.Prelude.{◌≡◌, false, ℕ, ◌^◌, ◌+◌, ◌*◌, ◌≤◌, ◌<◌, ltb, length, get_or};
+ghost use Rattle.std.specs.Prelude.{◌≡◌, false, ℕ, ◌^◌, ◌+◌, ◌*◌, ◌≤◌, ◌<◌, ltb, length, get_or, MatchOption};
 ghost use Rattle.refusal.specs.Slices.{lengths};
 ghost use Rattle.refusal.specs.Table.{short};
 ghost use Rattle.refusal.specs.Search.{some_below};
-ghost use Rattle.majorana.specs.Sets.{set_lent, bad_in};
+ghost use Rattle.majorana.specs.Sets.{set_lent, bad_in, many_or_bad};
 ghost use Rattle.majorana.specs.Held.{FitsIn, HeldIn};
 
 use crate::RowSet;
 use pauli::{Phase, Row};
 use refusal::Lent;
 
-// Whether slices are too short for the rows of a set, or for what else a call is lent.
+// Whether slices are too short for the rows of a set, or for what else a call is lent: proved once for the six calls.
 pub fn short(set: RowSet, w: usize, more: &[Lent]) -> bool
     requires { (set.modes ≤ 256) × (w ≤ 4) }
     ensures { result ≡ short (set_lent set.entry.modes w (length set.entry.x.now) (length set.entry.z.now)
         (length set.entry.phases.now) (lengths more.now)) }
 {
-    crate::rows_short(set.modes, w, set.x.len(), set.z.len(), set.phases.len())
-        || refusal::any_short(more)
+    set.rows_short(w) || refusal::any_short(more)
 }
 
 // Whether one of the first n phases is above 3. It does not stop at the first that is, so that a processor can look at
@@ -34,20 +33,12 @@ pub fn bad_phase(phases: &[u8], n: usize) -> bool
     3 < top
 }
 
-// Whether one of the rows is bad, in slices that hold them.
-pub fn bad(set: RowSet, w: usize) -> bool
-    requires { FitsIn set w }
-    ensures { result ≡ bad_in set.entry w }
-{
-    crate::bad_rows(set.modes, set.qubits, w, set.x, set.z, set.phases)
-}
-
 // For the proof alone: that words are below 2^64 is known of a slice that is a parameter, and not of one in a struct.
 fn words(x: &[u64])
     ensures { (k : ℕ) → get_or x.now k 0 < 2 ^ 64 }
 {}
 
-// The rows of a set, of w words a part, that passed these tests.
+// The rows of a set, of w words a part, that lie in their slices and are not bad: what `RowSet::rows` makes.
 #[derive(Clone, Copy)]
 pub struct Rows<'a> {
     pub set: RowSet<'a>,
@@ -58,12 +49,12 @@ pub struct Rows<'a> {
 
 impl<'a> Rows<'a> {
     ghost use Rattle.dense_block.specs.Words.{term_of};
-    ghost use Rattle.majorana.specs.HeldRows.{modes_of};
+    ghost use Rattle.majorana.specs.HeldRows.{modes_of, IsRow};
 
     // The rows of a set that passed 2 and 17.
-    pub fn of(set: RowSet<'a>, w: usize) -> Rows<'a>
+    pub(crate) fn of(set: RowSet<'a>, w: usize) -> Rows<'a>
         requires fits { FitsIn set w }
-        requires good { bad_in set w ≡ false }
+        requires good { many_or_bad set.modes set.qubits w set.x.now set.z.now set.phases.now ≡ false }
         ensures set { result.set ≡ set.entry }
         ensures w { result.w ≡ w }
     {
@@ -72,8 +63,19 @@ impl<'a> Rows<'a> {
         Rows { set, w }
     }
 
-    // Row k.
-    pub fn row(&self, k: usize) -> Row<'a>
+    // Row k, if there is one.
+    pub fn get(&self, k: usize) -> Option<Row<'a>>
+        ensures { MatchOption result (2 * self.now.set.modes ≤ k) (IsRow self.now k) }
+    {
+        if k < 2 * self.set.modes {
+            Some(self.row(k))
+        } else {
+            None
+        }
+    }
+
+    // The same, where there is one.
+    pub(crate) fn row(&self, k: usize) -> Row<'a>
         requires { k < 2 * self.now.set.modes }
         ensures phase { result.phase.power ≡ get_or self.now.set.phases.now k 0 }
         ensures x { result.x.now ≡ term_of self.now.w self.now.set.x.now k }

@@ -10,7 +10,7 @@ ghost use Rattle.majorana.specs.HeldRows.{modes_of};
 ghost use Rattle.majorana.specs.Rooms.{Same, equation_of, EquationsLoaded, SolvedLent, NewLent};
 
 use crate::rows::Rows;
-use crate::{RowSet, check, rows};
+use crate::{RowSet, check};
 use refusal::Refusal;
 
 // The xor of two rows of w words, and one word more.
@@ -76,7 +76,7 @@ pub fn solve_lent(set: RowSet, w: usize, v: &mut [u64], room: &mut [u64]) -> Res
     ensures { SolvedLent (bad_in set.entry w) (modes_in set.entry w) set.entry.qubits w
         v.old room.old result v.new room.new }
 {
-    if rows::bad(set, w) {
+    if set.bad_rows(w) {
         return Err(Refusal::Value);
     }
     if solve_held(&Rows::of(set, w), v, room) {
@@ -94,7 +94,7 @@ pub fn new_lent(set: RowSet, w: usize, out: &mut [u64], room: &mut [u64]) -> Res
     ensures { NewLent (bad_in set.entry w) (modes_in set.entry w) set.entry.qubits w
         out.old room.old result out.new room.new }
 {
-    if rows::bad(set, w) {
+    if set.bad_rows(w) {
         return Err(Refusal::Value);
     }
     let rows = Rows::of(set, w);

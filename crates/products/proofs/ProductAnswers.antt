@@ -1,7 +1,7 @@
 -- What a product hands back and leaves: which test refuses, what the words written stand for, and the answer with a coefficient of either kind. One outcome for each input.
 use Prim.Native.Nat.{ℕ, ◌*◌, ◌%◌, ◌≤◌}
 use native.Mathlib.Omega.{arith}
-use mathlib.Core.Path.{◌≡◌, ap, sym, ◌∙◌}
+use mathlib.Core.Path.{◌≡◌, refl, ap, sym, ◌∙◌}
 use mathlib.Core.List.{List, [], ◌∷◌, ◌++◌}
 use mathlib.Core.Bool.{Bool, true, false, not, ◌||◌}
 use lib.Dec.{ltb}
@@ -11,8 +11,8 @@ use lib.ListN.{length, drop}
 use Rattle.std.specs.Prelude.{Result, Ok, Err}
 use Rattle.refusal.specs.declared.Refusal.{Refusal}
 use Rattle.refusal.specs.declared.Refusal.TheVariants.{Size, Short, Value}
-use Rattle.refusal.specs.Numbers.{Paper, bare}
-use Rattle.refusal.specs.Table.{◌of◌, on_done}
+use Rattle.refusal.specs.Numbers.{Paper, bare, paper}
+use Rattle.refusal.specs.Table.{◌of◌, ◌gives◌, first_of, on_done}
 use Rattle.refusal.proofs.Bools.{or_false}
 use Rattle.refusal.proofs.Outcome.{one_outcome, paper_injective, refused_number}
 use Rattle.algebra.specs.Rows.{common, Row}
@@ -24,8 +24,7 @@ use Rattle.pauli.specs.declared.Marked.{Marked}
 use Rattle.pauli.specs.Phases.{letter_power, row_power}
 use Rattle.pauli.proofs.Signed.{mod_four_lt}
 use Rattle.majorana.specs.Sets.{Set, width, bad_size, many_or_short, many_or_bad}
-use Rattle.majorana.specs.Held.{Fits}
-use Rattle.majorana.proofs.SetLaws.{InSize, in_size, few_words, few_bad, set_too_short, set_long, held_in}
+use Rattle.majorana.proofs.SetLaws.{InSize, in_size, few_words, few_bad, set_too_short, set_long}
 use Rattle.products.specs.Phases.{phase_of}
 use Rattle.products.specs.Products.{product, product_size, product_short, some_high, product_bad, product_refused, Told, product_paper, Makes, Multiplies, RealMultiplies}
 
@@ -52,26 +51,46 @@ module _ (s : Set) (size : bad_size s.n s.q ≡ false) (w : ℕ) (e : w ≡ widt
   narrow : w ≤ 4
   narrow = omega (arith, e, few_words s.q sized.qubits_high)
 
-  pub modes_few : s.n ≤ 256
+  modes_few : s.n ≤ 256
   modes_few = sized.modes_high
 
-  pub rows_too_short : (oxs ozs : List ℕ) → many_or_short s.n w (length s.xs) (length s.zs) (length s.ps) ≡ true → product_short s oxs ozs ≡ true
+  rows_too_short : (oxs ozs : List ℕ) → many_or_short s.n w (length s.xs) (length s.zs) (length s.ps) ≡ true → product_short s oxs ozs ≡ true
   unfolding product_short
   rows_too_short oxs ozs h = rw (sym e) (set_too_short s.n w _ _ _ modes_few narrow ((w of length oxs) ∷ (w of length ozs) ∷ []) h)
 
-  pub parts_short : (oxs ozs : List ℕ) → many_or_short s.n w (length s.xs) (length s.zs) (length s.ps) ≡ false
+  parts_short : (oxs ozs : List ℕ) → many_or_short s.n w (length s.xs) (length s.zs) (length s.ps) ≡ false
       → product_short s oxs ozs ≡ (ltb (length oxs) w || ltb (length ozs) w)
   unfolding product_short
   parts_short oxs ozs h =
       rw (sym e) (set_long s.n w _ _ _ modes_few narrow ((w of length oxs) ∷ (w of length ozs) ∷ []) h)
       ∙ ap (λ (b : Bool). ltb (length oxs) w || b) (or_false (ltb (length ozs) w))
 
-  pub rows_fit : many_or_short s.n w (length s.xs) (length s.zs) (length s.ps) ≡ false → Fits s.n w s.xs s.zs s.ps
-  rows_fit h = (held_in s.n w s.xs s.zs s.ps [] modes_few narrow (set_long s.n w _ _ _ modes_few narrow [] h)).0
+  -- whatever the rows, a part that is too short is refused; if none is, they decide
+  pub outs_short : (oxs ozs : List ℕ) → (ltb (length oxs) w || ltb (length ozs) w) ≡ true → product_short s oxs ozs ≡ true
+  outs_short oxs ozs k = go (many_or_short s.n w (length s.xs) (length s.zs) (length s.ps)) refl
+    where
+      go : (b : Bool) → many_or_short s.n w (length s.xs) (length s.zs) (length s.ps) ≡ b → product_short s oxs ozs ≡ true
+      go true h = rows_too_short oxs ozs h
+      go false h = parts_short oxs ozs h ∙ k
+
+  pub outs_long : (oxs ozs : List ℕ) → (ltb (length oxs) w || ltb (length ozs) w) ≡ false
+      → product_short s oxs ozs ≡ many_or_short s.n w (length s.xs) (length s.zs) (length s.ps)
+  outs_long oxs ozs k = go (many_or_short s.n w (length s.xs) (length s.zs) (length s.ps)) refl
+    where
+      go : (b : Bool) → many_or_short s.n w (length s.xs) (length s.zs) (length s.ps) ≡ b
+          → product_short s oxs ozs ≡ many_or_short s.n w (length s.xs) (length s.zs) (length s.ps)
+      go true h = rows_too_short oxs ozs h ∙ sym h
+      go false h = parts_short oxs ozs h ∙ k ∙ sym h
 
   pub same_bad : (ks : List ℕ) (finite : Bool) → product_bad s ks finite ≡ (many_or_bad s.n s.q w s.xs s.zs s.ps || (some_high (2 * s.n) ks || not finite))
   unfolding product_bad
   same_bad ks finite = rw (sym e) (ap (λ (b : Bool). b || (some_high (2 * s.n) ks || not finite)) (sym (few_bad s.n s.q w s.xs s.zs s.ps modes_few)))
+
+-- rows that are done passed both tests
+pub both_passed : (b d : Bool) → bare 0 ≡ first_of ((b gives 2) ∷ (d gives 17) ∷ []) → (b ≡ false) × (d ≡ false)
+both_passed true d e = absurd (refused_number Short (sym (ap (λ (p : Paper). p.number) e)))
+both_passed false true e = absurd (refused_number Value (sym (ap (λ (p : Paper). p.number) e)))
+both_passed false false e = (refl, refl)
 
 module _ {A : Type 0} (finite : Bool) (turn : ℕ → A) (none : A) (s : Set) (ks oxs ozs : List ℕ) where
   pub make_size : product_size s ks ≡ true → Makes finite turn none s ks oxs ozs (Err Size) oxs ozs
@@ -86,6 +105,13 @@ module _ {A : Type 0} (finite : Bool) (turn : ℕ → A) (none : A) (s : Set) (k
       → Makes finite turn none s ks oxs ozs (Err Value) oxs ozs
   unfolding product_refused
   make_value h k l = record { answer = rw (h, k, l); x_part = rw (h, k, l); z_part = rw (h, k, l) }
+
+  -- by 2 or by 17 of the rows
+  pub make_refused : (why : Refusal) (b d : Bool) → product_size s ks ≡ false → product_short s oxs ozs ≡ b → (d ≡ true → product_bad s ks finite ≡ true)
+      → paper why ≡ first_of ((b gives 2) ∷ (d gives 17) ∷ []) → Makes finite turn none s ks oxs ozs (Err why) oxs ozs
+  make_refused why true d h k l e = let is : why ≡ Short = paper_injective e in rw is (make_short h k)
+  make_refused why false true h k l e = let is : why ≡ Value = paper_injective e in rw is (make_value h k (l refl))
+  make_refused why false false h k l e = absurd (refused_number why (ap (λ (p : Paper). p.number) e))
 
   pub make_done : product_size s ks ≡ false → product_short s oxs ozs ≡ false → product_bad s ks finite ≡ false
       → (made : Phase × A) (xs zs : List ℕ) → made.0.power ≡ (product s ks).p → made.1 ≡ turn (row_power (product s ks))

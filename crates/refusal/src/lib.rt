@@ -54,6 +54,7 @@ pub enum Refusal {
 }
 
 impl Refusal {
+    // The number in the table. It is no `From`: all pairs of 10 have one number, and a call says what it asks for.
     pub fn number(self) -> u8
         ensures { result ≡ (paper self).number }
     {

@@ -30,7 +30,8 @@ use Rattle.flatpack_text.specs.Machine.{most, told, numbers_of, kept}
 use Rattle.report.specs.Report.{digits_of, refused, report, refused_line, wrote, written, roomy, report_length, reported}
 use Rattle.flatpack_text.specs.Entries.{used}
 use Rattle.report.specs.Output.{pack, tree, qubits, reaching, verdict, verdict_of, answer_text, output_of, output}
-use Rattle.report.specs.Replies.{input_of, said_length, said, told_line, Replied}
+use Rattle.report.specs.Located.{told_line}
+use Rattle.report.specs.Replies.{input_of, said_length, said, Replied}
 use Rattle.report.proofs.Digits.{digits_word}
 use Rattle.report.proofs.LineLaws.{length_two}
 use Rattle.report.proofs.Packs.{plain, full, plain_long, full_long, table_at, qubit_number, qubit_same, slot_same}

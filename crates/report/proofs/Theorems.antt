@@ -24,8 +24,8 @@ use Rattle.flatpack_text.specs.Moves.{finished}
 use Rattle.flatpack_text.proofs.Reading.{start_kept, finished_after}
 use Rattle.flatpack_text.proofs.Theorems.{joined, FedInTurn, fed_on}
 use Rattle.report.specs.Output.{tree, verdict, verdict_of, output}
-use Rattle.report.specs.Located.{SiteOf}
-use Rattle.report.specs.Replies.{told_line, Replied, located}
+use Rattle.report.specs.Located.{told_line, SiteOf}
+use Rattle.report.specs.Replies.{Replied, located}
 use Rattle.report.proofs.Outputs.{reply_whole, reply_numbered}
 use Rattle.report.proofs.Sites.{site_of, slotless, unnamed}
 

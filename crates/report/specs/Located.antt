@@ -1,13 +1,18 @@
 -- Where in a text a refusal was found: the line that is no entry, or the slot for which its entries are refused.
 use Rattle.std.specs.Prelude.{ℕ, zero, suc, ◌+◌, ◌/◌, ◌%◌, min, ◌≡◌, List, Option, Some, None}
 use Rattle.refusal.specs.Search.{Least, found, none}
+use Rattle.refusal.specs.Table.{if_zero}
 use Rattle.trees.specs.Trees.{fault, FirstAtFault}
 use Rattle.report.specs.declared.explain.Spot.{Spot}
 use Rattle.report.specs.declared.explain.Spot.TheVariants.{X, Y, Z}
 use Rattle.report.specs.declared.locate.Site.{Site}
 use Rattle.flatpack_text.specs.Text.{Entry, Parsed, well_formed, malformed}
-use Rattle.flatpack_text.specs.Machine.{most}
+use Rattle.flatpack_text.specs.Machine.{Told, most}
 use Rattle.report.specs.Output.{tree, verdict}
+
+-- the line that is no entry, if the text is not well formed
+abbrev pub told_line : Told → Option ℕ
+told_line t = if_zero t.number None (Some t.line)
 
 -- the slot of a line: 0 is X, 1 is Y, 2 is Z
 abbrev pub spot_of : ℕ → Spot

@@ -12,7 +12,7 @@ use Rattle.flatpack_text.specs.Entries.{placed, plain_at, filled_at, used}
 use Rattle.report.specs.declared.locate.Site.{Site}
 use Rattle.report.specs.declared.reply.Reply.{Reply}
 use Rattle.report.specs.Report.{refused_line, wrote, written, report_length, reported}
-use Rattle.report.specs.Located.{located_at}
+use Rattle.report.specs.Located.{told_line, located_at}
 
 -- ---- respond
 
@@ -28,10 +28,6 @@ unfoldable pub input_of : ℕ → List ℕ → Input
 input_of n table =
     given true n (used table (min n 256)) (placed (plain_at table) (4 * min n 256) (replicate 1024 0)) (placed (filled_at table) (3 * min n 256) (replicate 768 false))
     (replicate 2048 0) (replicate 2048 0) (replicate 512 0) (replicate 4 0) (replicate 4096 0)
-
--- the line that is no entry, if the text is not well formed
-abbrev pub told_line : Told → Option ℕ
-told_line t = if_zero t.number None (Some t.line)
 
 -- n entries, of which the table has the first 256, answered: the reply r, and the buffer at exit
 pub record Builds (n : ℕ) (table out : List ℕ) (r : Reply) (after : List ℕ) : Type 0 where

@@ -13,7 +13,8 @@ ghost use Rattle.report.specs.Report.{letter, letters, bits, row_of, row_number,
 
 use crate::pieces::{digits, put_number, put_word};
 
-// The rows of n modes on q qubits: rows 0 to 2n - 1, of ceil(q / 64) words each.
+// The rows of n modes on q qubits: rows 0 to 2n - 1, of ceil(q / 64) words each. No `majorana::RowSet`: the text crates
+// stand on the trees alone, and would name `majorana` for this one struct.
 #[derive(Clone, Copy)]
 pub struct Rows<'a> {
     pub modes: usize,
@@ -76,7 +77,8 @@ fn row_number(p: u8, x: &[u64], z: &[u64]) -> usize
     p as usize
 }
 
-// The line of row k at a place of the buffer; the place after it.
+// The line of row k at a place of the buffer; the place after it. The row's parts come apart, as the caller of `row_line`
+// has them.
 fn put_row(out: &mut [u8], at: usize, k: usize, p: u8, x: &[u64], z: &[u64], q: usize) -> usize
     requires { at + length (row_line q k (row_of p x.now z.now)) ≤ length out.old }
     ensures place { result ≡ at + length (row_line q k (row_of p x.now z.now)) }

@@ -6,7 +6,7 @@ use mathlib.Core.Bool.{Bool, true, false}
 use mathlib.Core.List.{List}
 use lib.ListN.{length, drop}
 use lib.Seq.{drop_at}
-use Rattle.std.specs.Prelude.{Ok, Err}
+use Rattle.std.specs.Prelude.{Option, Ok, Err}
 use Rattle.refusal.specs.declared.Refusal.TheVariants.{Vacuum}
 use Rattle.algebra.specs.Modes.{vacuum_rule}
 use Rattle.dense_block.specs.Words.{words_for, zeroed}
@@ -20,7 +20,8 @@ use Rattle.trees.specs.declared.Named.{Named}
 use Rattle.trees.specs.Named.{named_tree}
 use Rattle.tree_sizes.specs.Sizes.{qubit_at}
 use Rattle.ternarytree.specs.Building.{flat}
-use Rattle.ternarytree.specs.Tables.{nth, AtMost, Wired, Slots, Planted, RowsWritten, StoredX, Ready, rows_answer, TreeBuilt}
+use Rattle.ternarytree.specs.Tables.{nth, AtMost, AllBelow, Wired, Slots, Planted, RowsWritten, StoredX, Ready, rows_answer, TreeBuilt}
+use Rattle.ternarytree.proofs.Codes.{some_same}
 use Rattle.ternarytree.proofs.ClimbSteps.{wired_parents}
 use Rattle.trees.proofs.Bounds.{Within, low_row}
 
@@ -32,9 +33,9 @@ cleared_laid w f m xs xs' h e =
 cleared_listed : (f : ℕ → ℕ) (m : ℕ) (xs xs' : List ℕ) → m ≤ length xs → xs' ≡ listed f m xs → zeroed m xs' ≡ zeroed m xs
 cleared_listed f m xs xs' h e = zeroed_same m xs' xs (ap length e ∙ length_listed f m xs h) (ap (drop m) e ∙ drop_at (numbers_of f m) (drop m xs) m (length_numbers f m))
 
-module _ (leaves : Bool) (t : Tree) (n w : ℕ) (parents columns slots : List ℕ) (ok : Ready leaves t n w parents columns slots) where
-  pub slots_low : (m : ℕ) → m < 2 * n → (0 < nth slots m) × (nth slots m ≤ 3 * n)
-  slots_low m h = let e = ok.ends m h in (omega (arith, e.0), omega (arith, e.0, e.1))
+module _ (leaves : Bool) (t : Tree) (n w : ℕ) (parents : List (Option ℕ)) (columns : List ℕ) (slots : List (Option ℕ)) (ok : Ready leaves t n w parents columns slots) where
+  pub slots_within : AllBelow (2 * n) (3 * n) slots
+  slots_within m k h e = let at = ok.ends m h in omega (arith, some_same (sym e ∙ at.0), at.1)
 
   qubit_low : (i : ℕ) → i < t.n → t.qubit i < 64 * w
   qubit_low i h =
@@ -83,7 +84,7 @@ module _ (leaves : Bool) (t : Tree) (n w : ℕ) (parents columns slots : List �
         }
 
 -- the tables of a flatpack
-pub flat_ready : (leaves : Bool) (n w : ℕ) (es : List ℕ) (fs : List Bool) (ps ls cs ends : List ℕ) → Wired (flat leaves n es fs) n (3 * n) ps ls
+pub flat_ready : (leaves : Bool) (n w : ℕ) (es : List ℕ) (fs : List Bool) (ps ls : List (Option ℕ)) (cs : List ℕ) (ends : List (Option ℕ)) → Wired (flat leaves n es fs) n (3 * n) ps ls
     → ((i : ℕ) → i < n → nth cs i ≡ qubit_at es i) → ((i : ℕ) → i < n → qubit_at es i / 64 < w) → Slots (slot_of leaves (flat leaves n es fs)) n ends
     → Ready leaves (flat leaves n es fs) n w ps cs ends
 flat_ready leaves n w es fs ps ls cs ends wired copied low slots = record {
@@ -94,7 +95,7 @@ flat_ready leaves n w es fs ps ls cs ends wired copied low slots = record {
 }
 
 -- and of a named tree
-pub named_ready : (tree : Named) (n w : ℕ) (cs ps ks ends : List ℕ) → w ≡ words_for n → Planted (named_tree tree n) n cs ps ks → Slots (slot_of false (named_tree tree n)) n ends
+pub named_ready : (tree : Named) (n w : ℕ) (cs : List ℕ) (ps ks ends : List (Option ℕ)) → w ≡ words_for n → Planted (named_tree tree n) n cs ps ks → Slots (slot_of false (named_tree tree n)) n ends
     → Ready false (named_tree tree n) n w ps cs ends
 named_ready tree n w cs ps ks ends e planted slots = record {
   ups = planted.ups;

@@ -1,20 +1,21 @@
 -- Steps of `add_row`: what is written and what is still to be written make the row of a slot.
-use Prim.Native.Nat.{ℕ, zero, suc, ◌+◌, ◌-◌, ◌/◌, ◌%◌, ◌^◌, ◌<◌, ◌≤◌}
+use Prim.Native.Nat.{ℕ, zero, suc, ◌+◌, ◌-◌, ◌/◌, ◌%◌, ◌^◌, ◌<◌}
 use native.Mathlib.Omega.{arith}
 use mathlib.Core.Path.{◌≡◌, refl, sym, ap, ◌∙◌}
 use mathlib.Core.Logic.{◌≢◌}
 use mathlib.Core.List.{List}
 use lib.ListN.{length}
+use Rattle.std.specs.Prelude.{Some, None}
+use Rattle.ternarytree.specs.declared.climbing.Way.{Way}
 use lib.Bits.{bit_xor, xor_zero_r}
-use Rattle.refusal.specs.Search.{Least, found, none}
 use Rattle.algebra.specs.Rows.{Row, identity}
 use Rattle.algebra.proofs.Digits.{xor_assoc}
 use Rattle.dense_block.specs.Words.{value}
 use Rattle.dense_block.proofs.Values.{Words}
-use Rattle.trees.specs.Trees.{onward, Tree, up}
+use Rattle.trees.specs.Trees.{Tree, up}
 use Rattle.trees.specs.Paths.{join, letter_at, letter, above, row_at}
-use Rattle.ternarytree.specs.Tables.{code, link_of, lettered, Added}
-use Rattle.ternarytree.proofs.Codes.{link_none}
+use Rattle.ternarytree.specs.Tables.{link_of, lettered, Added}
+use Rattle.ternarytree.proofs.Codes.{link_none, link_some}
 use Rattle.ternarytree.proofs.Flips.{value_flipped}
 
 -- the row from letter l of node i up, with f steps left
@@ -95,35 +96,29 @@ module _ (t : Tree) (k vx vz : ℕ) where
 
 -- ---- what is above a node
 
-pub above_stop : (t : Tree) (f i u : ℕ) → u ≡ link_of (code (up t i)) → u < 4 → above t f i ≡ identity
+pub above_stop : (t : Tree) (f i : ℕ) → link_of (up t i) ≡ None → above t f i ≡ identity
 unfolding above
-above_stop t zero i u h z = refl
-above_stop t (suc f) i u h z = rw (link_none (up t i) u h z)
+above_stop t zero i h = refl
+above_stop t (suc f) i h = rw (link_none (up t i) h)
 
 pub above_zero : (t : Tree) (f i : ℕ) → f ≡ 0 → above t f i ≡ identity
 unfolding above
 above_zero t zero i h = refl
 above_zero t (suc f) i h = absurd (omega arith)
 
-pub above_step : (t : Tree) (f i u : ℕ) → u ≡ link_of (code (up t i)) → 4 ≤ u → f ≢ 0 → above t f i ≡ row_up t (f - 1) (u / 4 - 1) (u % 4)
+pub above_step : (t : Tree) (f i : ℕ) (w : Way) → link_of (up t i) ≡ Some w → f ≢ 0 → above t f i ≡ row_up t (f - 1) w.node w.letter
 unfolding above row_up letter
-above_step t zero i u h g p = absurd (p refl)
-above_step t (suc f) i u h g p =
+above_step t zero i w h p = absurd (p refl)
+above_step t (suc f) i w h p =
     let e : suc f - 1 ≡ f = omega arith in
-    rw e (go (up t i) h)
-  where
-    go : (o : Least) → u ≡ link_of (code o) → onward o identity (λ k. join (letter_at (k % 3) (2 ^ t.qubit (k / 3))) (above t f (k / 3))) ≡ join (letter_at (u % 4) (2 ^ t.qubit (u / 4 - 1))) (above t f (u / 4 - 1))
-    go (found k) e =
-        let s : k / 3 ≡ u / 4 - 1 = omega arith in
-        let r : k % 3 ≡ u % 4 = omega arith in
-        rw (s, r)
-    go none e = absurd (omega arith)
+    let (k, is, node, letter) = link_some (up t i) w h in
+    rw (e, is, node, letter)
 
 -- and after one letter more
-pub above_left : (t : Tree) (f g i u : ℕ) → g ≡ f → u ≡ link_of (code (up t i)) → 4 ≤ u → above t f i ≡ row_left t g (u / 4 - 1) (u % 4)
+pub above_left : (t : Tree) (f g i : ℕ) (w : Way) → g ≡ f → link_of (up t i) ≡ Some w → above t f i ≡ row_left t g w.node w.letter
 unfolding above
-above_left t f g i u e h l = rw e (go f)
+above_left t f g i w e h = rw e (go f)
   where
-    go : (f : ℕ) → above t f i ≡ row_left t f (u / 4 - 1) (u % 4)
+    go : (f : ℕ) → above t f i ≡ row_left t f w.node w.letter
     go zero = refl
-    go (suc f) = above_step t (suc f) i u h l (λ z. omega arith) ∙ ap (λ (m : ℕ). row_up t m (u / 4 - 1) (u % 4)) (omega arith)
+    go (suc f) = above_step t (suc f) i w h (λ z. omega arith) ∙ ap (λ (m : ℕ). row_up t m w.node w.letter) (omega arith)

@@ -8,7 +8,7 @@ use mathlib.Core.List.{List, ◌∷◌}
 use borrow.Author.Tests.{lt-ltb, ne_eqb}
 use lib.Dec.{eqb, leb, ltb}
 use Rattle.refusal.specs.Numbers.{Paper, bare, paper, Answer}
-use Rattle.std.specs.Prelude.{Err}
+use Rattle.std.specs.Prelude.{Option, Err}
 use Rattle.refusal.specs.declared.Refusal.{Refusal}
 use Rattle.refusal.proofs.Outcome.{refused_number}
 use Rattle.refusal.specs.Search.{Least, found, none, least_below}
@@ -152,10 +152,10 @@ tree_passed leaves t w xs zs qs vs r xs' zs' qs' vs' shut p h =
 
 -- ---- the slots of the leaves
 
-pub leaf_ends : (leaves : Bool) (t : Tree) (n : ℕ) (ps ls : List ℕ) → leaves ≡ true → Wired t n (3 * n) ps ls → verdict leaves t ≡ 0 → Slots (slot_of leaves t) n ls
+pub leaf_ends : (leaves : Bool) (t : Tree) (n : ℕ) (ps ls : List (Option ℕ)) → leaves ≡ true → Wired t n (3 * n) ps ls → verdict leaves t ≡ 0 → Slots (slot_of leaves t) n ls
 leaf_ends true t n ps ls e w h = named_slots t n ps ls w (verdict_passes true t h).whole
 leaf_ends false t n ps ls e w h = absurd (never e refl)
 
-pub naive_ends : (leaves : Bool) (t : Tree) (n : ℕ) (ls : List ℕ) → not leaves ≡ true → Slots (slot_of false t) n ls → Slots (slot_of leaves t) n ls
+pub naive_ends : (leaves : Bool) (t : Tree) (n : ℕ) (ls : List (Option ℕ)) → not leaves ≡ true → Slots (slot_of false t) n ls → Slots (slot_of leaves t) n ls
 naive_ends true t n ls e s = absurd (never e refl)
 naive_ends false t n ls e s = s

@@ -14,15 +14,15 @@ use Rattle.refusal.proofs.Outcome.{refused_number}
 use Rattle.refusal.proofs.Searches.{least_of, least_none}
 use Rattle.trees.specs.declared.Child.{Child}
 use Rattle.trees.specs.Trees.{node_of, Tree, parent_in, leaf_in, twice_in, fault_of, fault, first_fault, Closed}
-use Rattle.std.specs.Prelude.{Option, Ok}
+use Rattle.std.specs.Prelude.{Option, None, Ok}
 use Rattle.refusal.specs.declared.Refusal.{Refusal}
 use Rattle.refusal.specs.Numbers.{Paper, Answer, bare, paper, answered}
 use Rattle.trees.specs.Flatpacks.{entry_in, past}
 use Rattle.tree_sizes.specs.Sizes.{qubit_at}
 use Rattle.ternarytree.specs.declared.entries.Entries.{Entries}
-use Rattle.ternarytree.specs.Building.{pack, slot_at, fault_slot}
+use Rattle.ternarytree.specs.Building.{pack, slot_at, placed, fault_slot}
 use Rattle.ternarytree.specs.Reading.{read}
-use Rattle.ternarytree.specs.Tables.{code, Holds, Blank, child_in, NodeBelow, Children, Wired, slot_verdict}
+use Rattle.ternarytree.specs.Tables.{Holds, Blank, child_in, NodeBelow, Children, Wired, slot_verdict}
 use Rattle.ternarytree.proofs.Codes.{in_order}
 use Rattle.ternarytree.proofs.EntrySteps.{child_is}
 use Rattle.trees.proofs.Flats.{flatpack_closed}
@@ -38,13 +38,13 @@ module _ (t : Tree) (k : ℕ) (before : (j : ℕ) → j < k → fault t j ≡ 0)
 
 -- ---- at the start
 
-pub wired_none : (t : Tree) (n : ℕ) (ps ls : List ℕ) → t.n ≡ n → n ≤ 256 → Blank 256 ps → Blank 512 ls → Wired t n 0 ps ls
+pub wired_none : (t : Tree) (n : ℕ) (ps ls : List (Option ℕ)) → t.n ≡ n → n ≤ 256 → Blank 256 ps → Blank 512 ls → Wired t n 0 ps ls
 unfolding parent_in leaf_in least_below
-wired_none t n ps ls e h bp bl = record { size = e; parents = λ j l. bp j (omega arith); leaves = λ m l. bl m (omega arith) }
+wired_none t n ps ls e h bp bl = record { size = e; parents = λ j l. ap placed (bp j (omega arith)); leaves = λ m l. ap placed (bl m (omega arith)) }
 
 -- ---- the invariant
 
-pub record Wiring (e : Entries) (table : List ℕ) (top : ℕ) (ps cs ls : List ℕ) (k : ℕ) : Type 0 where
+pub record Wiring (e : Entries) (table : List (Option ℕ)) (top : ℕ) (ps cs ls : List (Option ℕ)) (k : ℕ) : Type 0 where
   pub holds : Holds 256 (entry_in e.n (qubit_at e.numbers.now)) table
   pub top_is : top ≡ past (qubit_at e.numbers.now) e.n
   pub once : twice_in e.n (qubit_at e.numbers.now) ≡ false
@@ -52,7 +52,7 @@ pub record Wiring (e : Entries) (table : List ℕ) (top : ℕ) (ps cs ls : List 
   pub nodes : Holds k (λ s. node_of ((read e).child s)) cs
   pub before : (j : ℕ) → j < k → fault (read e) j ≡ 0
 
-module _ (e : Entries) (table : List ℕ) (top : ℕ) (ps cs ls : List ℕ) (k : ℕ) (w : Wiring e table top ps cs ls k) where
+module _ (e : Entries) (table : List (Option ℕ)) (top : ℕ) (ps cs ls : List (Option ℕ)) (k : ℕ) (w : Wiring e table top ps cs ls k) where
   -- what the code finds in slot k
   pub wiring_child : length table ≡ 256 → (s : Option ℕ) (o : Child) → s ≡ slot_at e.numbers.now e.filled.now k → o ≡ child_in table top e.leaves s → (read e).child k ≡ o
   wiring_child len s o is f = sym (f ∙ rw (is, w.top_is) (child_is e.n e.numbers.now e.filled.now e.leaves table e.low len w.holds k))
@@ -69,7 +69,7 @@ module _ (e : Entries) (table : List ℕ) (top : ℕ) (ps cs ls : List ℕ) (k :
       let at = fault_at_lem (read e) k w.before h (λ z. refused_number r (ap (λ (p : Paper). p.number) same ∙ z)) in
       (rw (w.once, at) same, rw (w.once, at))
 
-  pub wiring_next : (o : Child) (r : Answer) (a : ℕ) (ps' ls' : List ℕ) → length cs ≡ 768 → k < 3 * e.n → (read e).child k ≡ o → a ≡ code (node_of o)
+  pub wiring_next : (o : Child) (r : Answer) (a : Option ℕ) (ps' ls' : List (Option ℕ)) → length cs ≡ 768 → k < 3 * e.n → (read e).child k ≡ o → placed a ≡ node_of o
       → answered r ≡ bare (fault_of (read e) k o) → r ≡ Ok tt
       → Wired (read e) e.n (k + 1) ps' ls' → Wiring e table top ps' (set cs k a) ls' (k + 1)
   wiring_next o r a ps' ls' len h is ea er z w' = record {
@@ -77,7 +77,7 @@ module _ (e : Entries) (table : List ℕ) (top : ℕ) (ps cs ls : List ℕ) (k :
     top_is = w.top_is;
     once = w.once;
     wired = w';
-    nodes = in_order (λ s. code (node_of ((read e).child s))) cs k a w.nodes (omega (arith, len, e.some)) (ea ∙ ap (λ (o : Child). code (node_of o)) (sym is));
+    nodes = in_order None (λ s x. placed x ≡ node_of ((read e).child s)) cs k a w.nodes (omega (arith, len, e.some)) (ea ∙ ap node_of (sym is));
     before = below_more _ k w.before (ap (fault_of (read e) k) is ∙ sym (ap (λ (p : Paper). p.number) (ap answered (sym z) ∙ er)));
   }
 

@@ -1,5 +1,5 @@
 -- For the private functions, and needs no belief: the tree of the entries that are read, what reading them answers, and what the tables hold.
-use Rattle.std.specs.Prelude.{ℕ, List, ◌*◌, ◌≡◌, Result, Ok, Err}
+use Rattle.std.specs.Prelude.{ℕ, List, Option, ◌*◌, ◌≡◌, Result, Ok, Err}
 use Rattle.refusal.specs.Numbers.{Paper, bare, paper}
 use Rattle.refusal.specs.Search.{Least, none}
 use Rattle.trees.specs.Trees.{Tree}
@@ -28,6 +28,6 @@ pub record Fresh (n : ℕ) (tables : Tables) : Type 0 where
   pub slots : Blank 512 tables.slots
 
 -- the slots of a tree's nodes and leaves, and the nodes in its slots, are in the tables
-pub record Filled (t : Tree) (n : ℕ) (parents children slots : List ℕ) : Type 0 where
+pub record Filled (t : Tree) (n : ℕ) (parents children slots : List (Option ℕ)) : Type 0 where
   pub wired : Wired t n (3 * n) parents slots
   pub nodes : Children t n (3 * n) children

@@ -1,5 +1,5 @@
 -- For the private functions, and needs no belief: what the tables of the code hold. No public contract, and no theorem on the calls, cites a definition of this file.
-use Rattle.std.specs.Prelude.{ℕ, zero, suc, ◌+◌, ◌*◌, ◌/◌, ◌%◌, ◌^◌, ◌<◌, ◌≤◌, ◌≡◌, List, [], ◌∷◌, Bool, cond, not, ◌&&◌, ◌||◌, Option, Some, None, ltb, length, get_or, set}
+use Rattle.std.specs.Prelude.{ℕ, zero, suc, ◌*◌, ◌/◌, ◌%◌, ◌^◌, ◌<◌, ◌≤◌, ◌≡◌, List, [], ◌∷◌, Bool, cond, not, ◌&&◌, ◌||◌, Option, Some, None, ltb, length, get_or, set}
 use Rattle.std.specs.Int.Bits.{bit_xor}
 use Rattle.refusal.specs.Numbers.{Paper, Answer, answered}
 use Rattle.refusal.specs.Search.{Least, found, none}
@@ -14,39 +14,43 @@ use Rattle.trees.specs.Paths.{row_at}
 use Rattle.trees.specs.Leaves.{slot_of}
 use Rattle.trees.specs.Flatpacks.{unnamed, named}
 use Rattle.tree_sizes.specs.Sizes.{reaches}
-use Rattle.ternarytree.specs.Building.{settled, tree_checks, flat}
+use Rattle.ternarytree.specs.Building.{settled, tree_checks, flat, placed}
+use Rattle.ternarytree.specs.declared.climbing.Way.{Way}
 
 -- element k of a list, 0 past its end
 abbrev pub nth : List ℕ → ℕ → ℕ
 nth l k = get_or l k 0
 
--- one more than what was found, or 0
-abbrev pub code : Least → ℕ
-code (found i) = suc i
-code none = 0
-
-abbrev pub uncode : ℕ → Least
-uncode zero = none
-uncode (suc i) = found i
+-- element k of a list of options, none past its end
+abbrev pub at : List (Option ℕ) → ℕ → Option ℕ
+at l k = get_or l k None
 
 -- a table holds the answers of f at the first n numbers
-abbrev pub Holds : ℕ → (ℕ → Least) → List ℕ → Type 0
-Holds n f l = (j : ℕ) → j < n → nth l j ≡ code (f j)
+abbrev pub Holds : ℕ → (ℕ → Least) → List (Option ℕ) → Type 0
+Holds n f l = (j : ℕ) → j < n → placed (at l j) ≡ f j
 
 -- the first n numbers of f are at most b
 abbrev pub AtMost : ℕ → ℕ → (ℕ → ℕ) → Type 0
 AtMost n b f = (j : ℕ) → j < n → f j ≤ b
 
--- a table of n numbers that are 0
-abbrev pub Blank : ℕ → List ℕ → Type 0
-Blank n l = (j : ℕ) → j < n → nth l j ≡ 0
+-- what the first n places hold is below b
+abbrev pub AllBelow : ℕ → ℕ → List (Option ℕ) → Type 0
+AllBelow n b l = (j v : ℕ) → j < n → at l j ≡ Some v → v < b
+
+-- n numbers that are 0
+abbrev pub Zero : ℕ → List ℕ → Type 0
+Zero n l = (j : ℕ) → j < n → nth l j ≡ 0
+
+-- n places with nothing in them
+abbrev pub Blank : ℕ → List (Option ℕ) → Type 0
+Blank n l = (j : ℕ) → j < n → at l j ≡ None
 
 -- ---- flatpacks
 
 -- what a slot holds, by a table of the qubits' entries
-abbrev pub child_in : List ℕ → ℕ → Bool → Option ℕ → Child
+abbrev pub child_in : List (Option ℕ) → ℕ → Bool → Option ℕ → Child
 child_in l top leaves None = empty
-child_in l top leaves (Some q) = named (uncode (nth l q)) (unnamed leaves top q)
+child_in l top leaves (Some q) = named (placed (at l q)) (unnamed leaves top q)
 
 -- a node is one of n
 abbrev pub NodeBelow : ℕ → Child → Type 0
@@ -60,37 +64,42 @@ pub record Columns (t : Tree) (n : ℕ) (l : List ℕ) : Type 0 where
   pub qubits : (i : ℕ) → i < n → t.qubit i ≡ nth l i
 
 -- the slots that hold its nodes
-pub record Parents (t : Tree) (n : ℕ) (l : List ℕ) : Type 0 where
+pub record Parents (t : Tree) (n : ℕ) (l : List (Option ℕ)) : Type 0 where
   pub size : t.n ≡ n
   pub ups : Holds n (up t) l
 
--- the way up as one number, by the number that a table of parents holds: 4 times one more than the node above, or 0, and the letter
-abbrev pub link_of : ℕ → ℕ
-link_of p = 4 * ((p + 2) / 3) + (p + 2) % 3
+-- the way up from a node that stands in slot k
+abbrev pub link_of : Least → Option Way
+link_of none = None
+link_of (found k) = Some (record { node = k / 3; letter = k % 3 })
+
+-- way k of a list, none past its end
+abbrev pub way_at : List (Option Way) → ℕ → Option Way
+way_at l k = get_or l k None
 
 -- the ways up from its nodes
-pub record Links (t : Tree) (n : ℕ) (l : List ℕ) : Type 0 where
+pub record Links (t : Tree) (n : ℕ) (l : List (Option Way)) : Type 0 where
   pub size : t.n ≡ n
-  pub ups : (i : ℕ) → i < n → nth l i ≡ link_of (code (up t i))
+  pub ups : (i : ℕ) → i < n → way_at l i ≡ link_of (up t i)
 
 -- n ways up lead to some of n nodes, by three letters
-abbrev pub Ways : ℕ → List ℕ → Type 0
-Ways n l = (i : ℕ) → i < n → (nth l i / 4 ≤ n) × (nth l i % 4 < 3)
+abbrev pub Ways : ℕ → List (Option Way) → Type 0
+Ways n l = (i : ℕ) (w : Way) → i < n → way_at l i ≡ Some w → (w.node < n) × (w.letter < 3)
 
 -- the nodes that its slots hold, the first k of them
-pub record Children (t : Tree) (n k : ℕ) (l : List ℕ) : Type 0 where
+pub record Children (t : Tree) (n k : ℕ) (l : List (Option ℕ)) : Type 0 where
   pub size : t.n ≡ n
   pub nodes : Holds k (λ s. node_of (t.child s)) l
 
 -- the tables of the parents and of the leaves, after the first k slots
-pub record Wired (t : Tree) (n k : ℕ) (ps ls : List ℕ) : Type 0 where
+pub record Wired (t : Tree) (n k : ℕ) (ps ls : List (Option ℕ)) : Type 0 where
   pub size : t.n ≡ n
   pub parents : Holds n (parent_in t k) ps
   pub leaves : Holds (2 * n) (leaf_in t k) ls
 
 -- the slot of each row's leaf
-abbrev pub Slots : (ℕ → ℕ) → ℕ → List ℕ → Type 0
-Slots slot n l = (m : ℕ) → m < 2 * n → (nth l m ≡ suc (slot m)) × (slot m < 3 * n)
+abbrev pub Slots : (ℕ → ℕ) → ℕ → List (Option ℕ) → Type 0
+Slots slot n l = (m : ℕ) → m < 2 * n → (at l m ≡ Some (slot m)) × (slot m < 3 * n)
 
 -- the number of the first test of the entries and slots that a tree fails, or 0
 unfoldable pub slot_verdict : Tree → ℕ
@@ -140,13 +149,13 @@ pub record StoredX (m : Modes) (n w : ℕ) (xs ps : List ℕ) : Type 0 where
   pub phase : (k : ℕ) → k < 2 * n → nth ps k ≡ (m.row k).p
 
 -- the tables of a tree of n nodes
-pub record Planted (t : Tree) (n : ℕ) (columns parents children : List ℕ) : Type 0 where
+pub record Planted (t : Tree) (n : ℕ) (columns : List ℕ) (parents children : List (Option ℕ)) : Type 0 where
   pub qubits : Columns t n columns
   pub ups : Parents t n parents
   pub nodes : Children t n (3 * n) children
 
 -- the same as `Built` needs them: the slots of its leaves too, and its columns lie in w words
-pub record Ready (leaves : Bool) (t : Tree) (n w : ℕ) (parents columns slots : List ℕ) : Type 0 where
+pub record Ready (leaves : Bool) (t : Tree) (n w : ℕ) (parents : List (Option ℕ)) (columns : List ℕ) (slots : List (Option ℕ)) : Type 0 where
   pub ups : Parents t n parents
   pub qubits : Columns t n columns
   pub within : (i : ℕ) → i < n → nth columns i / 64 < w

@@ -8,7 +8,7 @@ ghost use Rattle.trees.specs.Leaves.{slot_of, rows};
 ghost use Rattle.trees.specs.Named.{named_tree};
 ghost use Rattle.tree_sizes.specs.Sizes.{qubit_at};
 ghost use Rattle.ternarytree.specs.Building.{tree_checks};
-ghost use Rattle.ternarytree.specs.Tables.{nth, AtMost, Slots, verdict, rows_answer, Ready, TreeBuilt};
+ghost use Rattle.ternarytree.specs.Tables.{AllBelow, Slots, verdict, rows_answer, Ready, TreeBuilt};
 ghost use Rattle.ternarytree.specs.Reading.{read, Filled};
 
 use crate::entries::Entries;
@@ -47,8 +47,8 @@ pub fn build_rows(
 }
 
 // The slot of each row's leaf, in the table that has the slots of the leaves that slots name.
-pub fn leaf_slots(leaves: bool, children: &[usize; 768], tables: &mut Tables)
-    requires { AtMost (3 * tables.old.n) tables.old.n (nth children.now) }
+pub fn leaf_slots(leaves: bool, children: &[Option<u16>; 768], tables: &mut Tables)
+    requires { AllBelow (3 * tables.old.n) tables.old.n children.now }
     ensures nodes { tables.new.n ≡ tables.old.n }
     ensures parents { tables.new.parents ≡ tables.old.parents }
     ensures slots { (t : Tree) → Filled t tables.old.n tables.old.parents children.now tables.old.slots
@@ -74,7 +74,7 @@ pub fn build_flat(
         x.old z.old phases.old vacuum.old result x.new z.new phases.new vacuum.new }
 {
     let mut tables = Tables::of(e.n);
-    let mut children = [0usize; 768];
+    let mut children = [None; 768];
     climbing::check_tree(e, &mut tables, &mut children)?;
     leaf_slots(e.leaves, &children, &mut tables);
     let mut columns = [0usize; 256];
@@ -98,7 +98,7 @@ pub fn build_named(
 {
     let mut tables = Tables::of(n);
     let mut columns = [0usize; 256];
-    let mut children = [0usize; 768];
+    let mut children = [None; 768];
     planting::plant(tree, &mut columns, &mut tables, &mut children);
     chains::naive_slots(&children, &mut tables);
     build_rows(&tables, &columns, w, x, z, phases, vacuum)

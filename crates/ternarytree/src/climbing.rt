@@ -1,10 +1,11 @@
 // Climbs to the root, and the tests of a whole tree.
 
-ghost use Rattle.std.specs.Prelude.{◌≡◌, Ok, List, ℕ, ◌+◌, ◌*◌, ◌<◌, ◌≤◌};
+ghost use Rattle.std.specs.Prelude.{◌≡◌, Ok, List, Option, ℕ, ◌+◌, ◌*◌, ◌<◌, ◌≤◌};
 ghost use Rattle.refusal.specs.Numbers.{bare, answered};
 ghost use Rattle.trees.specs.Trees.{Tree, climb, scattered, missing};
 ghost use Rattle.trees.specs.Hanging.{Hangs};
-ghost use Rattle.ternarytree.specs.Tables.{nth, AtMost, Parents, link_of, Links, Ways, Wired, verdict};
+ghost use Rattle.ternarytree.specs.Building.{placed};
+ghost use Rattle.ternarytree.specs.Tables.{AllBelow, Parents, link_of, Links, Ways, Wired, verdict};
 ghost use Rattle.ternarytree.specs.Reading.{read, Fresh, Filled};
 
 use crate::entries::Entries;
@@ -12,26 +13,42 @@ use crate::reading;
 use crate::tables::Tables;
 use refusal::Refusal;
 
-// The way up from each of n nodes: 4 times one more than the node above it, or 0 if there is none, and the letter of the
-// slot that it stands in.
+// The way up from a node: the node above it, and the letter of the slot that it stands in.
+#[derive(Clone, Copy)]
+pub struct Way {
+    pub node: u16,
+    pub letter: u16,
+}
+
+// The way up from a node that stands in a slot.
+fn way_up(slot: Option<u16>) -> Option<Way>
+    ensures { result ≡ link_of (placed slot) }
+{
+    let k = slot?;
+    Some(Way {
+        node: k / 3,
+        letter: k % 3,
+    })
+}
+
+// The way up from each of n nodes.
 #[derive(Drop)]
 pub struct Routes {
     pub n: usize,
-    pub ways: [usize; 256],
+    pub ways: [Option<Way>; 256],
     ghost some: { (0 < n) × (n ≤ 256) },
     ghost within: { Ways n ways },
 }
 
 impl Routes {
     pub fn of(tables: &Tables) -> Routes
-        requires { AtMost tables.now.n (3 * tables.now.n) (nth tables.now.parents) }
+        requires { AllBelow tables.now.n (3 * tables.now.n) tables.now.parents }
         ensures { (result.n ≡ tables.now.n)
             × ((t : Tree) → Parents t tables.now.n tables.now.parents → Links t result.n result.ways) }
     {
-        let mut ways = [0usize; 256];
+        let mut ways = [None; 256];
         for i in 0..tables.n {
-            let up = tables.parents[i] + 2;
-            ways[i] = 4 * (up / 3) + up % 3;
+            ways[i] = way_up(tables.parents[i]);
         }
         Routes { n: tables.n, ways }
     }
@@ -47,11 +64,10 @@ impl Routes {
         let mut left = self.n;
         // Counted by hand: must-fail/endless_parents.edit is about what is left.
         while 0 < left {
-            let up = self.ways[at] / 4;
-            if up == 0 {
+            let Some(way) = self.ways[at] else {
                 return at;
-            }
-            at = up - 1;
+            };
+            at = way.node as usize;
             if at < i {
                 return at;
             }
@@ -63,12 +79,12 @@ impl Routes {
 
 // Whether not all nodes hang from one root. A climb need not go past a node that was climbed from before.
 pub fn is_scattered(tables: &Tables) -> bool
-    requires { AtMost tables.now.n (3 * tables.now.n) (nth tables.now.parents) }
+    requires { AllBelow tables.now.n (3 * tables.now.n) tables.now.parents }
     ensures { (t : Tree) → Parents t tables.now.n tables.now.parents → result ≡ scattered t }
 {
     let routes = Routes::of(tables);
     let top = routes.climb_up(0);
-    if tables.parents[top] != 0 {
+    if tables.parents[top].is_some() {
         return true;
     }
     for i in 0..tables.n {
@@ -82,9 +98,15 @@ pub fn is_scattered(tables: &Tables) -> bool
 
 // Whether a leaf has no slot.
 pub fn any_missing(tables: &Tables) -> bool
-    ensures { (t : Tree) (ps : List ℕ) → Wired t tables.now.n (3 * tables.now.n) ps tables.now.slots → result ≡ missing t }
+    ensures { (t : Tree) (ps : List (Option ℕ)) → Wired t tables.now.n (3 * tables.now.n) ps tables.now.slots
+        → result ≡ missing t }
 {
-    tables.slots[..2 * tables.n].contains(&0)
+    for m in 0..2 * tables.n {
+        if tables.slots[m].is_none() {
+            return true;
+        }
+    }
+    false
 }
 
 // The first test that a flatpack fails; where it fails none, the tables, blank at first, hold the slots of its nodes and
@@ -92,7 +114,7 @@ pub fn any_missing(tables: &Tables) -> bool
 pub fn check_tree(
     e: Entries,
     tables: &mut Tables,
-    children: &mut [usize; 768],
+    children: &mut [Option<u16>; 768],
 ) -> Result<(), Refusal>
     requires { Fresh e.n tables.old }
     ensures nodes { tables.new.n ≡ e.entry.n }

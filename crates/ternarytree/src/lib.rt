@@ -127,7 +127,7 @@ pub fn find_fault(leaves: bool, flat: Flatpack) -> Option<usize>
     match reading::wire(
         Entries::of(leaves, flat),
         &mut Tables::of(flat.modes),
-        &mut [0; 768],
+        &mut [None; 768],
     ) {
         Ok(()) => None,
         Err(fault) => fault.slot,

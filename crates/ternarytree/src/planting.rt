@@ -3,7 +3,7 @@
 ghost use Rattle.std.specs.Prelude.{◌≡◌, ◌<◌};
 ghost use Rattle.trees.specs.declared.Named.TheVariants.{BravyiKitaev as bravyiKitaev};
 ghost use Rattle.trees.specs.Named.{under, named_tree};
-ghost use Rattle.ternarytree.specs.Tables.{Blank, Planted};
+ghost use Rattle.ternarytree.specs.Tables.{Zero, Blank, Planted};
 ghost use Rattle.ternarytree.specs.Reading.{Fresh};
 
 use crate::tables::Tables;
@@ -39,21 +39,21 @@ pub fn slot_under(tree: Named, k: usize) -> usize
     }
 }
 
-// The columns of the nodes, the slots that hold them and the nodes in the slots, in tables that are zero at first.
+// The columns of the nodes, the slots that hold them and the nodes in the slots, in tables with nothing in them yet.
 pub fn plant(
     tree: Named,
     columns: &mut [usize; 256],
     tables: &mut Tables,
-    children: &mut [usize; 768],
+    children: &mut [Option<u16>; 768],
 )
-    requires { Fresh tables.old.n tables.old × Blank 256 columns.old × Blank 768 children.old }
+    requires { Fresh tables.old.n tables.old × Zero 256 columns.old × Blank 768 children.old }
     ensures { (tables.new.n ≡ tables.old.n)
         × Planted (named_tree tree tables.old.n) tables.old.n columns.new tables.new.parents children.new }
 {
     for k in 1..tables.n {
         let s = slot_under(tree, k);
         columns[k] = k;
-        tables.parents[k] = s + 1;
-        children[s] = k + 1;
+        tables.parents[k] = Some(s as u16);
+        children[s] = Some(k as u16);
     }
 }

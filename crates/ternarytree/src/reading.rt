@@ -7,8 +7,8 @@ ghost use Rattle.trees.specs.declared.Child.TheVariants.{Node as node};
 ghost use Rattle.trees.specs.Trees.{Tree, node_of, row_of, parent_in, leaf_in, twice_in, leaf_fault, fault_of};
 ghost use Rattle.trees.specs.Flatpacks.{entry_in, past, leaf_numbered};
 ghost use Rattle.tree_sizes.specs.Sizes.{qubit_at};
-ghost use Rattle.ternarytree.specs.Building.{fault_slot};
-ghost use Rattle.ternarytree.specs.Tables.{nth, code, Holds, Blank, child_in, NodeBelow, Wired, slot_verdict};
+ghost use Rattle.ternarytree.specs.Building.{placed, fault_slot};
+ghost use Rattle.ternarytree.specs.Tables.{nth, at, Holds, Blank, child_in, NodeBelow, Wired, slot_verdict};
 ghost use Rattle.ternarytree.specs.Reading.{read, told, slot_told, Fresh, Filled};
 
 use crate::entries::Entries;
@@ -25,18 +25,18 @@ pub fn copy_qubits(e: Entries, columns: &mut [usize; 256])
     }
 }
 
-// The entry of each qubit, in a table that is zero at first; true if a qubit has two.
-pub fn enter(e: Entries, table: &mut [usize; 256]) -> bool
+// The entry of each qubit, in a table with nothing in it at first; true if a qubit has two.
+pub fn enter(e: Entries, table: &mut [Option<u16>; 256]) -> bool
     requires { Blank 256 table.old }
     ensures twice { result ≡ twice_in e.entry.n (qubit_at e.entry.numbers.now) }
     ensures holds { result ≡ false → Holds 256 (entry_in e.entry.n (qubit_at e.entry.numbers.now)) table.new }
 {
     for i in 0..e.n {
         let q = e.qubit(i);
-        if table[q] != 0 {
+        if table[q].is_some() {
             return true;
         }
-        table[q] = i + 1;
+        table[q] = Some(i as u16);
     }
     false
 }
@@ -65,22 +65,21 @@ pub fn leaf_numbered(m: usize) -> Child
 }
 
 // What the table of the entries has for a number.
-pub fn entry_of(table: &[usize; 256], q: usize) -> usize
-    ensures { result ≡ nth table.now q }
+pub fn entry_of(table: &[Option<u16>; 256], q: usize) -> Option<u16>
+    ensures { result ≡ at table.now q }
 {
-    if q < 256 { table[q] } else { 0 }
+    if q < 256 { table[q] } else { None }
 }
 
 // What a slot holds. A number that is no entry's qubit is a leaf, or naive it is ignored.
-pub fn child_in(table: &[usize; 256], top: usize, leaves: bool, slot: Option<usize>) -> Child
+pub fn child_in(table: &[Option<u16>; 256], top: usize, leaves: bool, slot: Option<usize>) -> Child
     ensures { result ≡ child_in table.now top leaves slot }
 {
     let Some(q) = slot else {
         return Child::Empty;
     };
-    let e = entry_of(table, q);
-    if e != 0 {
-        Child::Node(e - 1)
+    if let Some(e) = entry_of(table, q) {
+        Child::Node(e as usize)
     } else if !leaves {
         Child::Empty
     } else if q < top {
@@ -90,19 +89,19 @@ pub fn child_in(table: &[usize; 256], top: usize, leaves: bool, slot: Option<usi
     }
 }
 
-// One more than the node that a slot holds, or 0.
-pub fn node_code(o: Child) -> usize
+// The node that a slot holds.
+pub fn node_held(o: Child) -> Option<u16>
     requires { NodeBelow 256 o }
-    ensures { result ≡ code (node_of o) }
+    ensures { placed result ≡ node_of o }
 {
     match o {
-        Child::Node(j) => j + 1,
-        _ => 0,
+        Child::Node(j) => Some(j as u16),
+        _ => None,
     }
 }
 
 // Enters slot k for node j, which it holds, into the table of the parents, or tells what is wrong with that.
-pub fn place_node(j: usize, k: usize, parents: &mut [usize; 256]) -> Result<(), Refusal>
+pub fn place_node(j: usize, k: usize, parents: &mut [Option<u16>; 256]) -> Result<(), Refusal>
     requires { (j < 256) × (k < 768) }
     ensures told { (t : Tree) (n : ℕ) → j < n → t.child k ≡ node j → Holds n (parent_in t k) parents.old
         → answered result ≡ bare (fault_of t k (node j)) }
@@ -112,25 +111,25 @@ pub fn place_node(j: usize, k: usize, parents: &mut [usize; 256]) -> Result<(), 
     if j == k / 3 {
         return Err(Refusal::SelfChild);
     }
-    if parents[j] != 0 {
+    if parents[j].is_some() {
         return Err(Refusal::SecondParent);
     }
-    parents[j] = k + 1;
+    parents[j] = Some(k as u16);
     Ok(())
 }
 
 // Enters slot k for the leaf of row m, which it holds, into the table of the leaves, or tells what is wrong with that.
-pub fn place_leaf(m: usize, k: usize, slots: &mut [usize; 512]) -> Result<(), Refusal>
+pub fn place_leaf(m: usize, k: usize, slots: &mut [Option<u16>; 512]) -> Result<(), Refusal>
     requires { (m < 512) × (k < 768) }
     ensures told { (t : Tree) (n : ℕ) → t.n ≡ n → m < 2 * n → row_of (t.child k) ≡ found m
         → Holds (2 * n) (leaf_in t k) slots.old → answered result ≡ bare (leaf_fault t k m) }
     ensures holds { (t : Tree) (n : ℕ) → t.n ≡ n → m < 2 * n → n ≤ 256 → row_of (t.child k) ≡ found m
         → Holds (2 * n) (leaf_in t k) slots.old → result ≡ Ok tt → Holds (2 * n) (leaf_in t (k + 1)) slots.new }
 {
-    if slots[m] != 0 {
+    if slots[m].is_some() {
         return Err(Refusal::Leaf); // used twice
     }
-    slots[m] = k + 1;
+    slots[m] = Some(k as u16);
     Ok(())
 }
 
@@ -162,14 +161,14 @@ pub struct Fault {
 
 // Reads the slots of a flatpack: which node each holds, and the slots that hold the nodes and the leaves. What is wrong
 // with the entries or with the first wrong slot.
-pub fn wire(e: Entries, tables: &mut Tables, children: &mut [usize; 768]) -> Result<(), Fault>
+pub fn wire(e: Entries, tables: &mut Tables, children: &mut [Option<u16>; 768]) -> Result<(), Fault>
     requires { Fresh e.n tables.old }
     ensures nodes { tables.new.n ≡ e.entry.n }
     ensures told { told result ≡ bare (slot_verdict (read e.entry)) }
     ensures slot { slot_told result ≡ fault_slot (read e.entry) }
     ensures filled { result ≡ Ok tt → Filled (read e.entry) e.entry.n tables.new.parents children.new tables.new.slots }
 {
-    let mut table = [0usize; 256];
+    let mut table = [None; 256];
     if enter(e, &mut table) {
         return Err(Fault {
             why: Refusal::SecondEntry,
@@ -179,7 +178,7 @@ pub fn wire(e: Entries, tables: &mut Tables, children: &mut [usize; 768]) -> Res
     let top = past_all(e);
     for k in 0..3 * e.n {
         let o = child_in(&table, top, e.leaves, e.slot(k));
-        children[k] = node_code(o);
+        children[k] = node_held(o);
         if let Err(why) = place(o, k, tables) {
             return Err(Fault { why, slot: Some(k) });
         }

@@ -2,15 +2,18 @@
 
 ghost use Rattle.std.specs.Prelude.{◌<◌, ◌≤◌};
 
-// Of n nodes: the slot that holds each, and the slot of each row's leaf; 0 for nothing, else one more than the slot. The
-// columns of the nodes and the nodes in the slots are tables apart: in the struct they would be cleared for find_fault too,
-// and it was slower by a tenth at 128 modes and by a quarter at 8.
+// Here and in the other tables slots, nodes and entries are u16: an Option of it is 4 bytes, one of usize 16, and the
+// tables are cleared in each call (256 places: 113 instructions, not 4150).
+//
+// Of n nodes: the slot that holds each, and the slot of each row's leaf. The columns of the nodes and the nodes in the
+// slots are tables apart: in the struct the columns would be cleared for find_fault too (both in the struct, when the
+// tables were of usize: slower by a tenth at 128 modes and by a quarter at 8).
 #[derive(Drop)]
 pub struct Tables {
-    pub parents: [usize; 256],
-    // Between the two, so that each is cleared by itself: one clearing of both costs more.
+    pub parents: [Option<u16>; 256],
+    // Between the two, so that each is cleared by itself: one clearing of both costs 2,870 instructions more a call.
     pub n: usize,
-    pub slots: [usize; 512],
+    pub slots: [Option<u16>; 512],
     ghost some: { (0 < n) × (n ≤ 256) },
 }
 
@@ -23,9 +26,9 @@ impl Tables {
         ensures { Fresh n result }
     {
         Tables {
-            parents: [0; 256],
+            parents: [None; 256],
             n,
-            slots: [0; 512],
+            slots: [None; 512],
         }
     }
 }

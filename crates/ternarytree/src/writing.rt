@@ -4,7 +4,8 @@ ghost use Rattle.std.specs.Prelude.{◌≡◌, ℕ, ◌+◌, ◌*◌, ◌/◌, �
 ghost use Rattle.algebra.specs.Modes.{Modes, vacuum_rule};
 ghost use Rattle.trees.specs.Trees.{Tree};
 ghost use Rattle.trees.specs.Paths.{letter_at};
-ghost use Rattle.ternarytree.specs.Tables.{nth, AtMost, Columns, Parents, Links, Slots, flipped, lettered, Fits, Added, RowWritten, RowsWritten, StoredX};
+ghost use Rattle.ternarytree.specs.Tables.{nth, AtMost, AllBelow, Columns, Parents, Links, Slots, flipped, lettered};
+ghost use Rattle.ternarytree.specs.Tables.{Fits, Added, RowWritten, RowsWritten, StoredX};
 
 use crate::climbing::Routes;
 use crate::tables::Tables;
@@ -56,12 +57,11 @@ pub fn add_row(
     let mut l = k % 3;
     for _ in 0..routes.n + 1 {
         p = (p + put_letter(l, columns[i], x, z)) % 4;
-        let up = routes.ways[i];
-        if up < 4 {
+        let Some(way) = routes.ways[i] else {
             return p;
-        }
-        i = up / 4 - 1;
-        l = up % 4;
+        };
+        i = way.node as usize;
+        l = way.letter as usize;
     }
     p
 }
@@ -92,9 +92,9 @@ pub fn put_rows(
     z: &mut [u64],
     phases: &mut [u8],
 )
-    requires { AtMost tables.now.n (3 * tables.now.n) (nth tables.now.parents)
+    requires { AllBelow tables.now.n (3 * tables.now.n) tables.now.parents
         × ((i : ℕ) → i < tables.now.n → nth columns.now i / 64 < w)
-        × ((m : ℕ) → m < 2 * tables.now.n → (0 < nth tables.now.slots m) × (nth tables.now.slots m ≤ 3 * tables.now.n))
+        × AllBelow (2 * tables.now.n) (3 * tables.now.n) tables.now.slots
         × (2 * tables.now.n * w ≤ length x.old) × (2 * tables.now.n * w ≤ length z.old) × (2 * tables.now.n ≤ length phases.old) }
     ensures { (t : Tree) (slot : ℕ → ℕ) → Parents t tables.now.n tables.now.parents → Columns t tables.now.n columns.now
         → Slots slot tables.now.n tables.now.slots
@@ -105,13 +105,10 @@ pub fn put_rows(
     for m in 0..rows {
         let a = m * w;
         let e = a + w;
-        phases[m] = put_row(
-            &routes,
-            columns,
-            tables.slots[m] - 1,
-            &mut x[a..e],
-            &mut z[a..e],
-        );
+        let Some(k) = tables.slots[m] else {
+            continue; // no row of a tree that is built is without a slot
+        };
+        phases[m] = put_row(&routes, columns, k as usize, &mut x[a..e], &mut z[a..e]);
     }
 }
 

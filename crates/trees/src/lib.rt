@@ -4,7 +4,7 @@
 
 #![tactic(auto)]
 
-// What a slot of a tree holds.
+// What a slot of a tree holds. Empty is one kind of five: an Option of the other four would say no more.
 #[derive(Clone, Copy)]
 pub enum Child {
     Empty,

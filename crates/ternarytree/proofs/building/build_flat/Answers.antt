@@ -5,7 +5,7 @@ use Rattle.refusal.specs.Numbers.{Paper, answered}
 use Rattle.trees.proofs.Flats.{flatpack_closed}
 use Rattle.ternarytree.specs.Reading.{read, Filled}
 use Rattle.ternarytree.specs.Tables.{verdict, Ready}
-use Rattle.ternarytree.proofs.ChainSteps.{children_most}
+use Rattle.ternarytree.proofs.ChainSteps.{children_within}
 use Rattle.ternarytree.proofs.BuildSteps.{flat_ready}
 use Rattle.ternarytree.proofs.Verdicts.{verdict_passes, tree_refused, tree_passed}
 use Rattle.ternarytree.proofs.building.build_flat.Goals as goal
@@ -28,7 +28,7 @@ pub leaf_slots-requires : goal.leaf_slots-requires
 leaf_slots-requires c =
     let e = c.args.e in
     let at = (goal.at.leaf_slots-requires c).In_ok-check_tree in
-    rw c.check_tree.ensures.nodes (children_most (read e) e.n _ (flatpack_closed e.leaves _) (filled at).nodes)
+    rw c.check_tree.ensures.nodes (children_within (read e) e.n _ (flatpack_closed e.leaves _) (filled at).nodes)
 
 -- the tables that are built from
 ready : (c : After-copy_qubits) → Filled (read c.args.e) c.args.e.n c.check_tree.new.tables.parents c.check_tree.new.children c.check_tree.new.tables.slots

@@ -1,12 +1,13 @@
 -- `build_named` meets its contract: the tables of a named tree, which passes its tests, and the rows.
 use Rattle.std.proofs.Common.{◌∙◌, refl, sym, false, arith}
+use Rattle.std.specs.Prelude.{None}
 use lib.ListN.{get_or-replicate}
 use Rattle.trees.specs.declared.Named.{Named}
 use Rattle.trees.specs.Named.{named_tree}
 use Rattle.trees.proofs.NamedTrees.{named_passes}
 use Rattle.trees.proofs.Fit.{named_closed}
 use Rattle.ternarytree.specs.Tables.{Planted, Ready}
-use Rattle.ternarytree.proofs.ChainSteps.{children_most}
+use Rattle.ternarytree.proofs.ChainSteps.{children_within}
 use Rattle.ternarytree.proofs.BuildSteps.{named_ready}
 use Rattle.ternarytree.proofs.Verdicts.{tree_passed}
 use Rattle.ternarytree.proofs.building.build_named.Goals as goal
@@ -25,13 +26,13 @@ pub plant-requires : goal.plant-requires
 plant-requires c = (
   rw (sym c.of-tables.ensures.nodes) at c.of-tables.ensures,
   λ j h. get_or-replicate 256 j 0 0 h,
-  λ j h. get_or-replicate 768 j 0 0 h,
+  λ j h. get_or-replicate 768 j None None h,
 )
 
 pub naive_slots-requires : goal.naive_slots-requires
 naive_slots-requires c =
     let p = rw c.of-tables.ensures.nodes at c.plant.ensures.1 in
-    rw (c.plant.ensures.0 ∙ c.of-tables.ensures.nodes) (children_most _ c.args.n _ (named_closed _ c.args.n) p.nodes)
+    rw (c.plant.ensures.0 ∙ c.of-tables.ensures.nodes) (children_within _ c.args.n _ (named_closed _ c.args.n) p.nodes)
 
 pub build_rows-requires : goal.build_rows-requires
 build_rows-requires c =

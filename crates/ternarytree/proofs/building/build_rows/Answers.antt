@@ -2,15 +2,15 @@
 use native.Mathlib.Omega.{arith}
 use mathlib.Core.Path.{sym, ◌∙◌}
 use Rattle.trees.specs.Leaves.{slot_of}
-use Rattle.ternarytree.proofs.ClimbSteps.{parents_most}
+use Rattle.ternarytree.proofs.ClimbSteps.{parents_within}
 use Rattle.ternarytree.proofs.Flips.{zeroed_front}
-use Rattle.ternarytree.proofs.BuildSteps.{slots_low, phases_small, stored, built_done, built_broken}
+use Rattle.ternarytree.proofs.BuildSteps.{slots_within, phases_small, stored, built_done, built_broken}
 use Rattle.ternarytree.proofs.building.build_rows.Goals as goal
 
 pub put_rows-requires : goal.put_rows-requires
 put_rows-requires c =
     let (leaves, t, ok) = c.requires.1 in
-    (parents_most t c.args.tables.now.n _ ok.ups, ok.within, slots_low leaves t c.args.tables.now.n c.args.w _ _ _ ok, c.requires.2, c.requires.3, c.requires.4)
+    (parents_within t c.args.tables.now.n _ ok.ups, ok.within, slots_within leaves t c.args.tables.now.n c.args.w _ _ _ ok, c.requires.2, c.requires.3, c.requires.4)
 
 pub vacuum_met-requires : goal.vacuum_met-requires
 vacuum_met-requires c =

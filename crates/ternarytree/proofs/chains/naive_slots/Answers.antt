@@ -1,5 +1,6 @@
 -- `naive_slots` meets its contract: the rows before m have their slots.
-use Rattle.std.proofs.Common.{◌≡◌, suc, ◌+◌, false, ap, ◌∙◌, add-one, arith, below_more}
+use Rattle.std.proofs.Common.{◌≡◌, false, ap, arith, below_more}
+use Rattle.std.specs.Prelude.{Some, None}
 use Rattle.trees.specs.Leaves.{slot_of}
 use Rattle.ternarytree.proofs.Codes.{in_order}
 use Rattle.ternarytree.proofs.chains.naive_slots.Goals as goal
@@ -15,7 +16,7 @@ loop-m-preserved c =
       slots = λ t w.
           let e : y.result ≡ slot_of false t l.m = y.ensures.1 t w in
           let r = l.invariant.slots t w in (
-            in_order (λ j. suc (slot_of false t j)) l.tables.slots l.m (y.result + 1) r.0 (omega arith) (add-one y.result ∙ ap suc e),
+            in_order None (λ j x. x ≡ Some (slot_of false t j)) l.tables.slots l.m (Some y.result) r.0 (omega arith) (ap Some e),
             below_more _ l.m r.1 (rw (← e) y.ensures.0),
           );
     }

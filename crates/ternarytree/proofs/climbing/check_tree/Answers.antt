@@ -4,7 +4,7 @@ use Rattle.refusal.specs.Numbers.{Paper, bare}
 use Rattle.refusal.proofs.Outcome.{refused_number}
 use Rattle.ternarytree.specs.Reading.{read, told}
 use Rattle.ternarytree.specs.Tables.{Wired, slot_verdict}
-use Rattle.ternarytree.proofs.ClimbSteps.{parents_most, wired_parents, verdict_slot, verdict_scattered, verdict_missing, verdict_whole, verdict_naive}
+use Rattle.ternarytree.proofs.ClimbSteps.{parents_within, wired_parents, verdict_slot, verdict_scattered, verdict_missing, verdict_whole, verdict_naive}
 use Rattle.ternarytree.proofs.climbing.check_tree.Goals as goal
 use Rattle.ternarytree.proofs.climbing.check_tree.Goals.{In_default, else-e-via-then-e+else-any_missing, else-e-via-else-e}
 
@@ -22,7 +22,7 @@ clean : (c : In_default) → 0 ≡ slot_verdict (read c.args.e)
 clean c = ap (λ (p : Paper). p.number) (ap told (sym c.in_default.is) ∙ c.wire.ensures.told)
 
 pub is_scattered-requires : goal.is_scattered-requires
-is_scattered-requires c = parents_most (read c.args.e) _ _ (wired_parents (read c.args.e) _ _ _ (wired (goal.at.is_scattered-requires c).In_default))
+is_scattered-requires c = parents_within (read c.args.e) _ _ (wired_parents (read c.args.e) _ _ _ (wired (goal.at.is_scattered-requires c).In_default))
 
 pub returns-then-is_scattered-clause-told : goal.returns-then-is_scattered-clause-told
 returns-then-is_scattered-clause-told c =

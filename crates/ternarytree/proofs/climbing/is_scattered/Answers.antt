@@ -15,10 +15,10 @@ whole_climb : (c : After-climb_up-r) (t : Tree) → Parents t c.args.tables.now.
     → c.climb_up-r.result ≡ climb t c.args.tables.now.n c.loop-i.i
 whole_climb c t p h = (c.climb_up-r.ensures.1 t (c.of-routes.ensures.1 t p)).1 h ∙ ap (λ (n : ℕ). climb t n c.loop-i.i) c.of-routes.ensures.0
 
-pub returns-then-tables-top-ne0 : goal.returns-then-tables-top-ne0
-returns-then-tables-top-ne0 c =
-    let at = (goal.at.returns-then-tables-top-ne0 c).After-climb_up-top in
-    λ t p. top_has_parent t _ _ p c.climb_up-top.result (omega (arith, c.climb_up-top.ensures.0)) (first_climb at t p) c.if-tables-top-ne0.true
+pub returns-then-is_some : goal.returns-then-is_some
+returns-then-is_some c =
+    let at = (goal.at.returns-then-is_some c).After-climb_up-top in
+    λ t p. top_has_parent t _ _ p c.climb_up-top.result (omega (arith, c.climb_up-top.ensures.0)) (first_climb at t p) (sym c.is_some.ensures ∙ c.if-is_some.true)
 
 pub returns-then-r-top : goal.returns-then-r-top
 returns-then-r-top c =
@@ -38,11 +38,11 @@ loop-i-preserved c =
       | else-i-r-via-then-i-r+else-r-top z ↦ sym (whole_climb at t p z.if-i-r.true) ∙ z.if-r-top.false
       | else-i-r-via-else-i-r z ↦
           let hangs = (r.ensures.1 t (c.of-routes.ensures.1 t p)).0 in
-          on_the_way t _ _ p _ i r.result (omega (arith, c.climb_up-top.ensures.0, c.of-routes.ensures.0)) c.if-tables-top-ne0.false c.loop-i-test.true hangs
+          on_the_way t _ _ p _ i r.result (omega (arith, c.climb_up-top.ensures.0, c.of-routes.ensures.0)) (sym c.is_some.ensures ∙ c.if-is_some.false) c.loop-i-test.true hangs
           (before r.result (omega (arith, z.if-i-r.false)))
     ])
 
 pub returns : goal.returns
 returns c =
     let at = (goal.at.returns c).After-climb_up-top in
-    λ t p. all_to_top t _ _ p _ (omega (arith, c.climb_up-top.ensures.0, c.of-routes.ensures.0)) (first_climb at t p) c.if-tables-top-ne0.false (λ j h. c.loop-i.invariant t p j (omega arith))
+    λ t p. all_to_top t _ _ p _ (omega (arith, c.climb_up-top.ensures.0, c.of-routes.ensures.0)) (first_climb at t p) (sym c.is_some.ensures ∙ c.if-is_some.false) (λ j h. c.loop-i.invariant t p j (omega arith))

@@ -1,5 +1,5 @@
 -- `add_row` meets its contract: what is written, and the row from letter l of node i up, make the row of slot k.
-use Rattle.std.proofs.Common.{◌+◌, ◌-◌, ◌/◌, ◌%◌, refl, sym, arith}
+use Rattle.std.proofs.Common.{◌+◌, ◌-◌, ◌/◌, ◌%◌, refl, sym, ◌∙◌, arith}
 use Rattle.dense_block.specs.Words.{value}
 use Rattle.trees.specs.Trees.{Tree}
 use Rattle.trees.specs.Paths.{above}
@@ -42,13 +42,13 @@ pub overflow_add-p : goal.overflow_add-p
 overflow_add-p c =
     record { fits = omega (arith, c.put_letter.ensures.0, letter_small c.loop.l, c.loop.invariant.phase) }
 
-pub returns-then-up-lt4 : goal.returns-then-up-lt4
-returns-then-up-lt4 c =
+pub returns-in_default : goal.returns-in_default
+returns-in_default c =
     let l = c.loop in
     let a = c.args in
-    let written = letter_written (goal.at.returns-then-up-lt4 c).After-put_letter in
+    let written = letter_written (goal.at.returns-in_default c).After-put_letter in
     λ t q v. left_none t a.k (value a.x.now) (value a.z.now) _ a.x.now a.z.now _ _ _ refl refl
-    (above_stop t (a.routes.now.n - l.counter) l.i _ (q.ups l.i l.invariant.node) c.if-up-lt4.true) (omega arith) (written t q v)
+    (above_stop t (a.routes.now.n - l.counter) l.i (sym (q.ups l.i l.invariant.node) ∙ c.in_default.is)) (omega arith) (written t q v)
 
 pub loop-preserved : goal.loop-preserved
 loop-preserved c =
@@ -56,16 +56,16 @@ loop-preserved c =
     let a = c.args in
     let n = a.routes.now.n in
     let written = letter_written (goal.at.loop-preserved c).After-put_letter in
-    let w = a.routes.now.within l.i l.invariant.node in
+    let w = a.routes.now.within l.i c.in-Some.way l.invariant.node c.in-Some.is in
     record {
-      node = omega (arith, w.0, c.if-up-lt4.false);
+      node = w.0;
       letter = w.1;
       phase = omega arith;
       x_words = λ i. (c.type_inv.x i).fits;
       z_words = λ i. (c.type_inv.z i).fits;
       left = λ t q v.
           left_step t a.k (value a.x.now) (value a.z.now) _ _ _ (above t (n - l.counter) l.i) _
-          (above_left t (n - l.counter) (n + 1 - (l.counter + 1)) l.i _ (omega arith) (q.ups l.i l.invariant.node) (omega (arith, c.if-up-lt4.false))) (written t q v);
+          (above_left t (n - l.counter) (n + 1 - (l.counter + 1)) l.i c.in-Some.way (omega arith) (sym (q.ups l.i l.invariant.node) ∙ c.in-Some.is)) (written t q v);
     }
 
 pub returns : goal.returns

@@ -1,6 +1,7 @@
 -- `put_rows` meets its contract: the rows before m are written.
-use Rattle.std.proofs.Common.{◌≡◌, ◌+◌, ◌-◌, ◌*◌, ◌≤◌, length, arith}
+use Rattle.std.proofs.Common.{◌≡◌, ◌+◌, ◌-◌, ◌*◌, ◌≤◌, length, sym, ◌∙◌, arith}
 use Rattle.dense_block.proofs.Terms.{row_within}
+use Rattle.ternarytree.proofs.Codes.{some_same}
 use Rattle.ternarytree.proofs.AllRows.{length_part, rows_start, rows_step}
 use Rattle.ternarytree.proofs.writing.put_rows.Goals as goal
 use Rattle.ternarytree.proofs.writing.put_rows.Goals.{In-loop-m}
@@ -18,9 +19,9 @@ pub put_row-requires : goal.put_row-requires
 put_row-requires c =
     let l = c.loop-m in
     let n = c.of-routes.ensures.0 in
-    let w = c.requires.2 l.m (omega arith) in
+    let low = c.requires.2 l.m c.in-Some.k (omega arith) c.in-Some.is in
     let k : l.m * c.args.w + c.args.w - l.m * c.args.w ≡ c.args.w = omega arith in (
-      omega (arith, w.0, w.1, n),
+      omega (arith, low, n),
       λ j h. rw (length_part (l.m * c.args.w) c.args.w _ l.x (x_row (goal.at.put_row-requires c).In-loop-m) k) (c.requires.1 j (omega (arith, h, n))),
       λ j h. rw (length_part (l.m * c.args.w) c.args.w _ l.z (z_row (goal.at.put_row-requires c).In-loop-m) k) (c.requires.1 j (omega (arith, h, n))),
     )
@@ -33,7 +34,7 @@ loop-m-preserved c =
     let k : l.m * a.w + a.w - l.m * a.w ≡ a.w = omega arith in
     λ t slot p q r.
     let at = r l.m (omega arith) in
-    rows_step t slot l.m a.w _ _ _ a.x.now a.z.now a.phases.now l.x l.z l.phases _ _ (l.invariant t slot p q r) (omega (arith, at.0)) k
+    rows_step t slot l.m a.w _ _ _ a.x.now a.z.now a.phases.now l.x l.z l.phases _ _ (l.invariant t slot p q r) (some_same (sym c.in-Some.is ∙ at.0)) k
     (x_row (goal.at.loop-m-preserved c).In-loop-m) (z_row (goal.at.loop-m-preserved c).In-loop-m)
     (omega (arith, c.requires.5)) (c.put_row.ensures t (n.1 t p) (rw n.0 q))
 
