@@ -2,6 +2,7 @@ pub mod Theorems
 pub mod NewTheorems
 pub mod FindingTheorems
 pub mod Cases
+pub mod RowsOutcome
 pub mod SetLaws
 pub mod ModeLaws
 pub mod WalkLaws
