@@ -161,8 +161,8 @@ pub fn stray(s: &[u64], q: usize) -> bool
 pub fn get_term(x: &[u64], width: usize, term: usize) -> &[u64]
     ensures { result.now ≡ term_of width x.now term }
 {
-    // a quotient, which the compiler takes out of a loop over rows: with `checked_mul`, `products::product` was measured
-    // to take up to 11% more instructions
+    // a quotient, which the compiler takes out of a loop over rows: with `checked_mul` such a loop was measured to take up
+    // to 11% more instructions (`products::product`, when it took its rows by this)
     if width == 0 || x.len() / width < term {
         return &[];
     }
@@ -186,11 +186,17 @@ fn joined(x: &[u64], width: usize, count: usize, at: usize) -> u64
 fn stray_terms(x: &[u64], width: usize, count: usize, q: usize) -> bool
     ensures { result ≡ strays_in width x.now count q }
 {
-    // rows from x.len() on have no words
-    for k in 0..count.min(x.len()) {
-        if stray(get_term(x, width, k), q) {
+    let mut rest = x;
+    for _ in 0..count {
+        // cut off, and no row behind it has words
+        if rest.len() < width {
+            return stray(rest, q);
+        }
+        let (row, more) = rest.split_at(width);
+        if stray(row, q) {
             return true;
         }
+        rest = more;
     }
     false
 }

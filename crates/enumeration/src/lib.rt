@@ -42,7 +42,7 @@ fn enumerate(
     order::enumerate_blocks(set.modes, 2 * w, map, set.x, ox);
     order::enumerate_blocks(set.modes, 2 * w, map, set.z, oz);
     order::enumerate_blocks(set.modes, 2, map, set.phases, ophases);
-    ovacuum[..w].copy_from_slice(&vacuum[..w]);
+    order::put(&mut ovacuum[..w], &vacuum[..w]);
     Ok(())
 }
 

@@ -19,6 +19,17 @@ pub fn is_permutation(modes: usize, map: &[usize]) -> bool
     true
 }
 
+// A block put over another of its length, by a loop: `copy_from_slice` calls memmove here, and the archive for C needs
+// memcpy and memset alone.
+pub fn put<T: Copy>(out: &mut [T], block: &[T])
+    requires { length block.now ≡ length out.old }
+    ensures { out.new ≡ block.now }
+{
+    for j in 0..block.len() {
+        out[j] = block[j];
+    }
+}
+
 // What each mode has in x, `size` elements, in the new order: the words of the rows of a mode, or their phases.
 pub fn enumerate_blocks<T: Copy>(modes: usize, size: usize, map: &[usize], x: &[T], out: &mut [T])
     requires { Maps modes map.now × (modes * size ≤ length x.now) × (modes * size ≤ length out.old) }
@@ -27,6 +38,6 @@ pub fn enumerate_blocks<T: Copy>(modes: usize, size: usize, map: &[usize], x: &[
     for i in 0..modes {
         let from = map[i] * size;
         let to = i * size;
-        out[to..to + size].copy_from_slice(&x[from..from + size]);
+        put(&mut out[to..to + size], &x[from..from + size]);
     }
 }

@@ -10,8 +10,8 @@ ghost use Rattle.majorana.specs.Held.{FitsIn};
 ghost use Rattle.majorana.specs.HeldRows.{modes_of};
 ghost use Rattle.majorana.specs.Rooms.{pair_of, Loaded, Same, task_checked, value_checked};
 
-use crate::RowSet;
 use crate::rows::Rows;
+use crate::{RowSet, rows};
 use pauli::Row;
 use refusal::Refusal;
 
@@ -38,8 +38,8 @@ fn join(part: &mut [u64], w: usize, row: Row)
     requires { (length row.x.now ≡ w) × (length row.z.now ≡ w) × (length part.old ≡ w + w) }
     ensures { part.new ≡ row.entry.x.now ++ row.entry.z.now }
 {
-    part[..w].copy_from_slice(row.x);
-    part[w..].copy_from_slice(row.z);
+    rows::put(&mut part[..w], row.x);
+    rows::put(&mut part[w..], row.z);
 }
 
 // Row r of the room made row r's X part and then its Z part.

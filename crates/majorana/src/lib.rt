@@ -2,6 +2,7 @@
 //
 //   RowSet::bad_size             whether 1 refuses its sizes
 //   RowSet::rows_short, bad_rows the part of 2 and of 17 that is about the rows
+//   rows_short                   the part of 2, of lengths alone
 //   RowSet::rows                 the rows that pass both
 //   check_rows                   10, 11 or 13 unless rows anticommute, are independent, and the vacuum rule holds
 //   check_vacuum                 13 unless the vacuum rule holds at the given string
@@ -46,6 +47,19 @@ pub struct RowSet<'a> {
     pub phases: &'a [u8],
 }
 
+// Whether X parts, Z parts and phases of these lengths are too short for rows of w words a part; more than 256 modes, or
+// more than 4 words, are too much for any lengths.
+pub fn rows_short(modes: usize, w: usize, x: usize, z: usize, phases: usize) -> bool
+    ensures { result ≡ many_or_short modes w x z phases }
+{
+    if 256 < modes || 4 < w {
+        return true;
+    }
+    let rows = 2 * modes;
+    let size = rows * w;
+    refusal::any_short(&[Lent(size, x), Lent(size, z), Lent(rows, phases)])
+}
+
 // The part of the tests 1, 2 and 17 that is about the rows. They ask nothing, and are true as well of what 1 refuses.
 impl<'a> RowSet<'a> {
     // Whether modes or qubits are 0 or above 256.
@@ -55,22 +69,12 @@ impl<'a> RowSet<'a> {
         refusal::outside(self.modes) || refusal::outside(self.qubits)
     }
 
-    // Whether the slices are too short for rows of w words a part; more than 256 modes, or more than 4 words, are too much
-    // for slices of any length.
+    // Whether the slices are too short for rows of w words a part, by their lengths.
     pub fn rows_short(&self, w: usize) -> bool
         ensures { result ≡ many_or_short self.now.modes w (length self.now.x.now) (length self.now.z.now)
             (length self.now.phases.now) }
     {
-        if 256 < self.modes || 4 < w {
-            return true;
-        }
-        let rows = 2 * self.modes;
-        let size = rows * w;
-        refusal::any_short(&[
-            Lent(size, self.x.len()),
-            Lent(size, self.z.len()),
-            Lent(rows, self.phases.len()),
-        ])
+        rows_short(self.modes, w, self.x.len(), self.z.len(), self.phases.len())
     }
 
     // Whether one of the rows has a phase above 3 or a bit past the last column, or there are more than 256 modes. What

@@ -34,7 +34,7 @@ impl<'a> Rows<'a> {
     pub(crate) fn all_paired(&self) -> bool
         ensures { result ≡ all_paired (modes_of self.now) }
     {
-        for i in 0..self.set.modes {
+        for i in (0..self.set.modes).rev() {
             if !self.is_paired(i) {
                 return false;
             }
@@ -65,7 +65,7 @@ impl<'a> Rows<'a> {
         requires { length v.now ≡ self.now.w }
         ensures { result ≡ vacuum_rule (modes_of self.now) (value v.now) }
     {
-        for i in 0..self.set.modes {
+        for i in (0..self.set.modes).rev() {
             if !self.look(i, v).is_empty(self.difference(i)) {
                 return false;
             }

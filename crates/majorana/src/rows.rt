@@ -33,6 +33,15 @@ pub fn bad_phase(phases: &[u8], n: usize) -> bool
     3 < top
 }
 
+// Words put over as many others, by a loop: `copy_from_slice` of two slices that a caller lends calls memmove, and the
+// archive for C needs memcpy and memset alone.
+pub fn put(part: &mut [u64], words: &[u64])
+    requires { length words.now ≡ length part.old }
+    ensures { part.new ≡ words.now }
+{
+    dense_block::copy(part, words);
+}
+
 // For the proof alone: that words are below 2^64 is known of a slice that is a parameter, and not of one in a struct.
 fn words(x: &[u64])
     ensures { (k : ℕ) → get_or x.now k 0 < 2 ^ 64 }

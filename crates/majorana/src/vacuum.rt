@@ -10,7 +10,7 @@ ghost use Rattle.majorana.specs.HeldRows.{modes_of};
 ghost use Rattle.majorana.specs.Rooms.{Same, equation_of, EquationsLoaded, SolvedLent, NewLent};
 
 use crate::rows::Rows;
-use crate::{RowSet, check};
+use crate::{RowSet, check, rows};
 use refusal::Refusal;
 
 // The xor of two rows of w words, and one word more.
@@ -18,7 +18,7 @@ fn equation(part: &mut [u64], w: usize, a: &[u64], b: &[u64], right: u64)
     requires { (length a.now ≡ w) × (length b.now ≡ w) × (length part.old ≡ w + 1) }
     ensures { part.new ≡ xors a.now b.now ++ (right ∷ []) }
 {
-    part[..w].copy_from_slice(a);
+    rows::put(&mut part[..w], a);
     dense_block::xor_assign(&mut part[..w], b);
     part[w] = right;
 }

@@ -9,20 +9,28 @@ use trees::{Flatpack, Named};
 
 // MaxNTO has no vacuum.
 pub fn maxnto(rt: &impl Print, modes: usize) -> io::Result<()> {
-    let mut rows = Rows::sevens();
-    let answer = maxnto::maxnto(modes, &mut rows.x, &mut rows.z, &mut rows.phases);
+    let mut x = [7; 512];
+    let mut z = [7; 512];
+    let mut phases = [7; 256];
+    let answer = maxnto::maxnto(modes, &mut x, &mut z, &mut phases);
     text::answer(rt, &answer)?;
     if answer.is_ok() {
         let size = Size {
             modes,
             qubits: modes,
         };
+        let rows = Rows {
+            x: &x,
+            z: &z,
+            phases: &phases,
+            vacuum: &[0; 2],
+        };
         rows.out(rt, size)?;
     }
     Ok(())
 }
 
-fn tree(rt: &impl Print, answer: Result<(), Refusal>, rows: &Rows, size: Size) -> io::Result<()> {
+fn tree(rt: &impl Print, answer: Result<(), Refusal>, rows: Rows, size: Size) -> io::Result<()> {
     text::answer(rt, &answer)?;
     if answer.is_ok() {
         rows.out_with_vacuum(rt, size)?;
@@ -38,22 +46,31 @@ pub fn named(rt: &impl Print, number: u64, size: Size) -> io::Result<()> {
         2 => Named::BravyiKitaev,
         _ => Named::Jkmn,
     };
-    let mut rows = Rows::sevens();
+    let mut x = [7; 512];
+    let mut z = [7; 512];
+    let mut phases = [7; 256];
+    let mut vacuum = [7; 2];
     let answer = ternarytree::from_name(
         named,
         size.modes,
         size.qubits,
-        &mut rows.x,
-        &mut rows.z,
-        &mut rows.phases,
-        &mut rows.vacuum,
+        &mut x,
+        &mut z,
+        &mut phases,
+        &mut vacuum,
         &mut [7; 1024],
     );
     let kept = Size {
         modes: size.modes,
         qubits: size.modes,
     };
-    tree(rt, answer, &rows, kept)
+    let rows = Rows {
+        x: &x,
+        z: &z,
+        phases: &phases,
+        vacuum: &vacuum,
+    };
+    tree(rt, answer, rows, kept)
 }
 
 // The entries stand in the text, four numbers each, and then which slots are filled.
@@ -74,17 +91,21 @@ pub fn flatpack(
         entries: &entries,
         filled: &filled,
     };
-    let mut rows = Rows::sevens();
-    let Rows {
-        x,
-        z,
-        phases,
-        vacuum,
-    } = &mut rows;
+    let mut x = [7; 512];
+    let mut z = [7; 512];
+    let mut p = [7; 256];
+    let mut v = [7; 2];
+    let q = size.qubits;
     let answer = if leaves {
-        ternarytree::from_flatpack(flat, size.qubits, x, z, phases, vacuum, &mut room)
+        ternarytree::from_flatpack(flat, q, &mut x, &mut z, &mut p, &mut v, &mut room)
     } else {
-        ternarytree::from_flatpack_naive(flat, size.qubits, x, z, phases, vacuum, &mut room)
+        ternarytree::from_flatpack_naive(flat, q, &mut x, &mut z, &mut p, &mut v, &mut room)
     };
-    tree(rt, answer, &rows, size)
+    let rows = Rows {
+        x: &x,
+        z: &z,
+        phases: &p,
+        vacuum: &v,
+    };
+    tree(rt, answer, rows, size)
 }

@@ -11,14 +11,14 @@
 #![tactic(auto)]
 
 mod built; // built.rt: the calls that build rows, and their answers written
-mod rows; // rows.rt: buffers for rows, and how much of them a case takes
+mod rows; // rows.rt: how much of its buffers a case takes, and the rows written in them
 mod sets; // sets.rt: the calls on a row set or on two rows, and their answers written
 mod text; // text.rt: numbers read and written
 
 ghost use Rattle.std.specs.Prelude.{◌≤◌, length, IfOk};
 
 use majorana::RowSet;
-use rows::{Rows, Size};
+use rows::Size;
 use std::io;
 use std::io::Read;
 use text::Numbers;
@@ -28,11 +28,19 @@ const MOST: u64 = 65536;
 
 // The row set of a case, and the call on it.
 fn on_rows(rt: &impl Print, call: u64, size: Size, numbers: &mut Numbers) -> io::Result<()> {
-    let mut rows = Rows::sevens();
-    numbers.fill(&mut rows.x[..size.words()], |k| k);
-    numbers.fill(&mut rows.z[..size.words()], |k| k);
-    numbers.fill(&mut rows.phases[..size.rows()], text::low_byte);
-    let set = rows.set(size);
+    let mut x = [0; 512];
+    let mut z = [0; 512];
+    let mut phases = [0; 256];
+    numbers.fill(&mut x[..size.words()], |k| k);
+    numbers.fill(&mut z[..size.words()], |k| k);
+    numbers.fill(&mut phases[..size.rows()], text::low_byte);
+    let set = RowSet {
+        modes: size.modes,
+        qubits: size.qubits,
+        x: &x,
+        z: &z,
+        phases: &phases,
+    };
     match call {
         0 => sets::solve(rt, set),
         1 => sets::new(rt, set),
@@ -52,7 +60,8 @@ fn on_vacuum(rt: &impl Print, call: u64, set: RowSet, numbers: &mut Numbers) -> 
     }
 }
 
-// One case, whose call is read.
+// One case, whose call is read. It is not inlined, so that its buffers are on the stack for a case alone.
+#[inline(never)]
 fn one(rt: &impl Print, call: u64, numbers: &mut Numbers) -> io::Result<()> {
     let size = Size {
         modes: numbers.number() as usize,

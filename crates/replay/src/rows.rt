@@ -1,9 +1,8 @@
-// Buffers for row sets of at most 128 modes on 128 qubits, and how much of them a case takes.
+// How much of buffers for at most 128 modes on 128 qubits a case takes, and the rows that a call wrote in them.
 
 ghost use Rattle.std.specs.Prelude.{◌≤◌};
 
 use crate::text;
-use majorana::RowSet;
 use std::io;
 
 // The modes and qubits of a case.
@@ -38,43 +37,27 @@ pub fn trimmed(words: &[u64; 2], bits: usize) -> &[u64] {
     if 64 < bits { words } else { &words[..1] }
 }
 
-// A row set and its vacuum.
-#[derive(Drop)]
-pub struct Rows {
-    pub x: [u64; 512],
-    pub z: [u64; 512],
-    pub phases: [u8; 256],
-    pub vacuum: [u64; 2],
+// The rows of a set and its vacuum, as a call wrote them. The buffers are arrays of the function that makes the call,
+// and only lent here: with a struct that holds them the program was measured to take 44 KiB of stack more.
+#[derive(Clone, Copy)]
+pub struct Rows<'a> {
+    pub x: &'a [u64; 512],
+    pub z: &'a [u64; 512],
+    pub phases: &'a [u8; 256],
+    pub vacuum: &'a [u64; 2],
 }
 
-impl Rows {
-    pub fn sevens() -> Rows {
-        Rows {
-            x: [7; 512],
-            z: [7; 512],
-            phases: [7; 256],
-            vacuum: [7; 2],
-        }
+impl Rows<'_> {
+    pub fn out(self, rt: &impl Print, size: Size) -> io::Result<()> {
+        let Rows { x, z, phases, .. } = self;
+        text::out(rt, &x[..size.words()])?;
+        text::out(rt, &z[..size.words()])?;
+        text::out(rt, &phases[..size.rows()])
     }
 
-    pub fn set(&self, size: Size) -> RowSet<'_> {
-        RowSet {
-            modes: size.modes,
-            qubits: size.qubits,
-            x: &self.x,
-            z: &self.z,
-            phases: &self.phases,
-        }
-    }
-
-    pub fn out(&self, rt: &impl Print, size: Size) -> io::Result<()> {
-        text::out(rt, &self.x[..size.words()])?;
-        text::out(rt, &self.z[..size.words()])?;
-        text::out(rt, &self.phases[..size.rows()])
-    }
-
-    pub fn out_with_vacuum(&self, rt: &impl Print, size: Size) -> io::Result<()> {
+    pub fn out_with_vacuum(self, rt: &impl Print, size: Size) -> io::Result<()> {
         self.out(rt, size)?;
-        text::out(rt, trimmed(&self.vacuum, size.qubits))
+        let vacuum = self.vacuum;
+        text::out(rt, trimmed(vacuum, size.qubits))
     }
 }

@@ -65,15 +65,18 @@ pub fn enumerate(
 ) -> io::Result<()> {
     let mut map = [0; 128];
     numbers.fill(&mut map[..set.modes.min(128)], |k| k as usize);
-    let mut rows = Rows::sevens();
+    let mut x = [7; 512];
+    let mut z = [7; 512];
+    let mut phases = [7; 256];
+    let mut new_vacuum = [7; 2];
     let answer = enumeration::apply_mode_enumeration(
         set,
         vacuum,
         &map,
-        &mut rows.x,
-        &mut rows.z,
-        &mut rows.phases,
-        &mut rows.vacuum,
+        &mut x,
+        &mut z,
+        &mut phases,
+        &mut new_vacuum,
         &mut [7; 1024],
     );
     text::answer(rt, &answer)?;
@@ -81,6 +84,12 @@ pub fn enumerate(
         let size = Size {
             modes: set.modes,
             qubits: set.qubits,
+        };
+        let rows = Rows {
+            x: &x,
+            z: &z,
+            phases: &phases,
+            vacuum: &new_vacuum,
         };
         rows.out_with_vacuum(rt, size)?;
     }

@@ -45,11 +45,20 @@ fn take_all(input: &mut impl Read) -> io::Result<Whole>
     Err(io::Error::from(ErrorKind::FileTooLarge))
 }
 
-// Writes the first k bytes of a text: all of them, or it says that it could not. Its length is written out at each
-// call, so that a text goes nowhere but where its length says.
+// Writes the first k bytes of a text: all of them, or it says that it could not.
 fn put<const N: usize>(to: &impl Print, text: &[u8; N], k: usize) -> bool {
     let bytes: &[u8] = text;
     k <= bytes.len() && to.write_all(&bytes[..k]).is_ok()
+}
+
+// The same for standard output: the length of the buffer is a type, so that no other text is taken.
+fn to_output(output: &impl Print, text: &[u8; 164480], k: usize) -> bool {
+    put(output, text, k)
+}
+
+// The same for standard error.
+fn to_error(error: &impl Print, text: &[u8; 256], k: usize) -> bool {
+    put(error, text, k)
 }
 
 // Writes what is answered to a text.
@@ -57,8 +66,8 @@ fn answer(output: &impl Print, error: &impl Print, r: Reading) {
     let mut report = [0u8; 164480];
     let mut sentence = [0u8; 256];
     let lengths = rowreport_core::texts(r, &mut report, &mut sentence);
-    if put::<164480>(output, &report, lengths.output) {
-        put::<256>(error, &sentence, lengths.error);
+    if to_output(output, &report, lengths.output) {
+        to_error(error, &sentence, lengths.error);
     } else {
         let _ = error.write_all(b"rowreport: standard output cannot be written.\n");
     }

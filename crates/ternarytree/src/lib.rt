@@ -68,7 +68,8 @@ fn from_entries(
         return Err(Refusal::Size);
     }
     let w = dense_block::words_for(qubits);
-    if tree_sizes::flat_short(flat, w, lengths(x, z, phases, vacuum, room)) {
+    let out = lengths(x, z, phases, vacuum, room);
+    if tree_sizes::flat_short(flat.modes, w, flat.entries.len(), flat.filled.len(), out) {
         return Err(Refusal::Short);
     }
     dense_block::clear(room, 4 * flat.modes * w);

@@ -90,28 +90,24 @@ pub fn outputs_short(n: usize, w: usize, out: Lengths) -> bool
         ])
 }
 
-// Whether a flatpack's entries or places are too few for at most 256 modes.
-fn entries_short(flat: Flatpack) -> bool
-    requires { flat.modes ≤ 256 }
-    ensures { let n = flat.entry.modes in
-        result ≡ short ((4 * n of length flat.entry.entries.now) ∷ (3 * n of length flat.entry.filled.now) ∷ []) }
+// Whether so many entries and places are too few for a flatpack of n modes, at most 256.
+fn entries_short(n: usize, entries: usize, filled: usize) -> bool
+    requires { n ≤ 256 }
+    ensures { result ≡ short ((4 * n of entries) ∷ (3 * n of filled) ∷ []) }
 {
-    refusal::any_short(&[
-        Lent(4 * flat.modes, flat.entries.len()),
-        Lent(3 * flat.modes, flat.filled.len()),
-    ])
+    refusal::any_short(&[Lent(4 * n, entries), Lent(3 * n, filled)])
 }
 
-// The same as outputs_short for a flatpack, whose entries and places come before the outputs.
+// The same as outputs_short for a flatpack, whose entries and places come before the outputs. It takes the lengths alone,
+// so that it answers for any, of slices or not.
 #[tactic(auto, unfolding(crate::specs::Sizes::many_or_short))]
-pub fn flat_short(flat: Flatpack, w: usize, out: Lengths) -> bool
-    ensures { let n = flat.entry.modes in
-        result ≡ many_or_short n w (
-        (4 * n of length flat.entry.entries.now)
-        ∷ (3 * n of length flat.entry.filled.now)
+pub fn flat_short(n: usize, w: usize, entries: usize, filled: usize, out: Lengths) -> bool
+    ensures { result ≡ many_or_short n w (
+        (4 * n of entries)
+        ∷ (3 * n of filled)
         ∷ outputs_lent n w out.x out.z out.phases out.vacuum out.room) }
 {
-    256 < flat.modes || entries_short(flat) || outputs_short(flat.modes, w, out)
+    256 < n || entries_short(n, entries, filled) || outputs_short(n, w, out)
 }
 
 // Whether the slots of a flatpack cannot be read: it has 0 or above 256 modes, a slice is too short, or a qubit is above
@@ -120,5 +116,7 @@ pub fn flat_short(flat: Flatpack, w: usize, out: Lengths) -> bool
 pub fn unreadable(flat: Flatpack) -> bool
     ensures { result ≡ unreadable flat.entry.modes flat.entry.entries.now flat.entry.filled.now }
 {
-    refusal::outside(flat.modes) || entries_short(flat) || reaches(flat.entries, flat.modes, 256)
+    refusal::outside(flat.modes)
+        || entries_short(flat.modes, flat.entries.len(), flat.filled.len())
+        || reaches(flat.entries, flat.modes, 256)
 }

@@ -1,7 +1,7 @@
--- `dense_block::stray_terms` meets its contract: no row so far has a column at or above q, and those past the end have no words.
-use Rattle.std.proofs.Common.{◌≡◌, false}
+-- `dense_block::stray_terms` meets its contract: no row so far has a column at or above q, and what is left starts with the row at hand.
+use Rattle.std.proofs.Common.{◌≡◌, ◌*◌, false, drop}
 use Rattle.dense_block.specs.Words.{strays_in}
 use Rattle.dense_block.proofs.stray_terms.Given as goal
 
-abbrev pub invariant-loop-k : goal.invariant-loop-k
-invariant-loop-k l = strays_in l.width l.x l.k l.q ≡ false
+abbrev pub invariant-loop : goal.invariant-loop
+invariant-loop l = (l.rest ≡ drop (l.counter * l.width) l.x) × (strays_in l.width l.x l.counter l.q ≡ false)

@@ -66,20 +66,20 @@ enumerate_blocks-requires-3 c =
     let l = lengths _ _ _ _ c.requires in
     (mapped (goal.at.enumerate_blocks-requires-3 c).Else-not-is_permutation, omega (arith, l.read.p_rows), omega (arith, l.written.p_rows))
 
-pub slice_bounds-copy_from_slice-end : goal.slice_bounds-copy_from_slice-end
-slice_bounds-copy_from_slice-end c = rw c.words_for-w.ensures (lengths _ _ _ _ c.requires).new_vacuum
+pub slice_bounds-put-end : goal.slice_bounds-put-end
+slice_bounds-put-end c = rw c.words_for-w.ensures (lengths _ _ _ _ c.requires).new_vacuum
 
-pub slice_bounds-copy_from_slice-end-2 : goal.slice_bounds-copy_from_slice-end-2
-slice_bounds-copy_from_slice-end-2 c = sym (length-take-le _ _ (rw c.words_for-w.ensures (lengths _ _ _ _ c.requires).new_vacuum))
+pub slice_bounds-put-end-2 : goal.slice_bounds-put-end-2
+slice_bounds-put-end-2 c = sym (length-take-le _ _ (rw c.words_for-w.ensures (lengths _ _ _ _ c.requires).new_vacuum))
 
-pub slice_bounds-copy_from_slice-end-3 : goal.slice_bounds-copy_from_slice-end-3
-slice_bounds-copy_from_slice-end-3 c = sym (length-take-le _ _ (rw c.words_for-w.ensures (lengths _ _ _ _ c.requires).vacuum))
+pub slice_bounds-put-end-3 : goal.slice_bounds-put-end-3
+slice_bounds-put-end-3 c = sym (length-take-le _ _ (rw c.words_for-w.ensures (lengths _ _ _ _ c.requires).vacuum))
 
-pub copy_from_slice-requires : goal.copy_from_slice-requires
-copy_from_slice-requires c =
+pub put-requires : goal.put-requires
+put-requires c =
     let l = lengths _ _ _ _ c.requires in
     let w = c.words_for-w.ensures in
-    length-take-le _ _ (rw w l.new_vacuum) ∙ sym (length-take-le _ _ (rw w l.vacuum))
+    length-take-le _ _ (rw w l.vacuum) ∙ sym (length-take-le _ _ (rw w l.new_vacuum))
 
 pub returns : goal.returns
 returns c =
@@ -91,6 +91,6 @@ returns c =
       x_rows = rw w at (words_written a.set.modes c.words_for-w.result a.map.now a.set.x.now a.ox.now c.enumerate_blocks.ensures);
       z_rows = rw w at (words_written a.set.modes c.words_for-w.result a.map.now a.set.z.now a.oz.now c.enumerate_blocks-2.ensures);
       phases = phases_written a.set.modes a.map.now a.set.phases.now (mapped g) l.read.p_rows a.ophases.now c.enumerate_blocks-3.ensures;
-      vacuum = ap (λ (l : List ℕ). l ++ drop c.words_for-w.result a.ovacuum.now) c.copy_from_slice.ensures.after
+      vacuum = ap (λ (l : List ℕ). l ++ drop c.words_for-w.result a.ovacuum.now) c.put.ensures
           ∙ ap (λ (k : ℕ). take k a.vacuum.now ++ drop k a.ovacuum.now) w;
     })

@@ -64,7 +64,7 @@ returns-then-bad_size c =
 -- whether 2 refuses what is given
 short_is : (c : After-flat_short) → c.flat_short.result ≡ many_or_short c.args.flat.modes c.words_for-w.result
     (lent (given c.args.leaves c.args.flat.modes c.args.qubits c.args.flat.entries.now c.args.flat.filled.now c.args.x.now c.args.z.now c.args.phases.now c.args.vacuum.now c.args.room.now) c.words_for-w.result)
-short_is c = rw c.lengths.ensures at c.flat_short.ensures
+short_is c = rw c.lengths-out.ensures at c.flat_short.ensures
 
 pub returns-then-flat_short : goal.returns-then-flat_short
 unfolding too_short

@@ -9,11 +9,11 @@ use Rattle.enumeration.proofs.order.enumerate_blocks.Goals as goal
 pub overflow_add-from : goal.overflow_add-from
 overflow_add-from g c = let h = blocks_within c.requires.0 c.args.size c.loop-i.i (omega arith) in record { fits = omega (arith, h.0) }
 
-pub slice_bounds-copy_from_slice-end : goal.slice_bounds-copy_from_slice-end
-slice_bounds-copy_from_slice-end g c = let h = blocks_within c.requires.0 c.args.size c.loop-i.i (omega arith) in omega (arith, h.0, h.1)
+pub slice_bounds-put-end : goal.slice_bounds-put-end
+slice_bounds-put-end g c = let h = blocks_within c.requires.0 c.args.size c.loop-i.i (omega arith) in omega (arith, h.0, h.1)
 
-pub slice_bounds-copy_from_slice-end-in-loop-i : goal.slice_bounds-copy_from_slice-end-in-loop-i
-slice_bounds-copy_from_slice-end-in-loop-i g c = let h = blocks_within c.requires.0 c.args.size c.loop-i.i (omega arith) in omega (arith, h.0, h.1)
+pub slice_bounds-put-end-in-loop-i : goal.slice_bounds-put-end-in-loop-i
+slice_bounds-put-end-in-loop-i g c = let h = blocks_within c.requires.0 c.args.size c.loop-i.i (omega arith) in omega (arith, h.0, h.1)
 
 pub loop-i-preserved : goal.loop-i-preserved
 loop-i-preserved g c =
@@ -23,4 +23,4 @@ loop-i-preserved g c =
     let e : at + a.size - at ≡ a.size = omega arith in
     next_block (λ j. take a.size (drop (get_or a.map.now j 0 * a.size) a.x.now)) l.i a.size l.out a.out.now _
     (length_blocks c.requires.0 a.size a.x.now c.requires.1 l.i (omega arith)) l.invariant
-    (c.copy_from_slice.ensures.after ∙ ap (λ (n : ℕ). take n (drop at a.x.now)) e)
+    (c.put.ensures ∙ ap (λ (n : ℕ). take n (drop at a.x.now)) e)

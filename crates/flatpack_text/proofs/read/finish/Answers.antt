@@ -1,4 +1,5 @@
 -- `flatpack_text::read::finish` meets its contract: well formed if no field is ended and none is begun.
+use native.Mathlib.Omega.{arith}
 use mathlib.Core.Path.{◌≡◌, sym, ap, ◌∙◌}
 use Rattle.flatpack_text.specs.declared.read.Field.TheVariants.{Nothing}
 use Rattle.flatpack_text.specs.declared.read.State.{State}
@@ -10,7 +11,9 @@ use Rattle.flatpack_text.proofs.read.finish.Goals as goal
 
 pub returns-in-0-Nothing : goal.returns-in-0-Nothing
 unfolding finished
-returns-in-0-Nothing c = answers c.args.s _ (rw (c.in-0-Nothing.is-0, c.in-0-Nothing.is-1))
+returns-in-0-Nothing c =
+    let none : c.args.s.fields ≡ 0 = omega (arith, c.in-0-Nothing.is-0) in
+    answers c.args.s _ (rw (none, c.in-0-Nothing.is-1))
 
 -- a line is begun
 is_faulty : (s : State) → (s.fields ≡ 0 → s.field ≡ Nothing → ⊥) → faulty s.entries ≡ finished s
@@ -21,4 +24,4 @@ pub returns-in_default : goal.returns-in_default
 returns-in_default c =
     answers c.args.s _ (
     ap fault_at c.count_on.ensures
-    ∙ elim c.in_default.branch [ in_default-via-in-0+in_default w ↦ is_faulty c.args.s (λ k f. w.in_default.not-Nothing-1 f) | in_default-via-in_default w ↦ is_faulty c.args.s (λ k f. w.in_default.is-0.1 k) ])
+    ∙ elim c.in_default.branch [ in_default-via-in-0+in_default w ↦ is_faulty c.args.s (λ k f. w.in_default.not-Nothing-1 f) | in_default-via-in_default w ↦ is_faulty c.args.s (λ k f. w.in_default.is-0.1 (omega (arith, k))) ])

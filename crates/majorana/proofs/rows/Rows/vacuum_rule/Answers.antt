@@ -1,9 +1,8 @@
--- `Rows::vacuum_rule` meets its contract: the modes so far are empty.
+-- `Rows::vacuum_rule` meets its contract: the modes from the highest, and what is left decides.
 use Prim.Native.Nat.{ℕ}
-use mathlib.Core.Path.{sym, ap, ◌∙◌}
+use mathlib.Core.Path.{refl, sym, ap, ◌∙◌}
 use native.Mathlib.Omega.{arith}
-use borrow.Author.Count.{below_more}
-use Rattle.refusal.proofs.Searches.{all_of, not_all}
+use Rattle.refusal.proofs.Searches.{all_here, all_below_lem, all_none}
 use Rattle.algebra.specs.Modes.{empty, vacuum_rule}
 use Rattle.dense_block.specs.Words.{value}
 use Rattle.majorana.specs.HeldRows.{modes_of}
@@ -11,20 +10,23 @@ use Rattle.majorana.specs.Walks.{empty_by}
 use Rattle.majorana.proofs.WalkLaws.{empty_told}
 use Rattle.majorana.proofs.rows.Rows.vacuum_rule.Goals as goal
 
-pub returns-then-not-is_empty : goal.returns-then-not-is_empty
+pub loop-i-init : goal.loop-i-init
 unfolding vacuum_rule
+loop-i-init c = refl
+
+pub returns-then-not-is_empty : goal.returns-then-not-is_empty
 returns-then-not-is_empty c =
-    let r = c.args.self.now in
     let is = c.is_empty.ensures ∙ ap (empty_by c.look.result) c.difference.ensures ∙ empty_told c.look.ensures in
-    sym (not_all r.set.modes (λ (k : ℕ). empty (modes_of r) k (value c.args.v.now)) c.loop-i.i (omega arith) (sym is ∙ c.if-not-is_empty.true))
+    let here = λ (k : ℕ). empty (modes_of c.args.self.now) k (value c.args.v.now) in
+    sym (c.loop-i.invariant ∙ all_here c.loop-i.i here (omega arith) (sym is ∙ c.if-not-is_empty.true))
 
 pub loop-i-preserved : goal.loop-i-preserved
 loop-i-preserved c =
     let is = c.is_empty.ensures ∙ ap (empty_by c.look.result) c.difference.ensures ∙ empty_told c.look.ensures in
-    below_more _ c.loop-i.i c.loop-i.invariant (sym is ∙ c.if-not-is_empty.false)
+    let here = λ (k : ℕ). empty (modes_of c.args.self.now) k (value c.args.v.now) in
+    c.loop-i.invariant ∙ all_below_lem c.loop-i.i here (omega arith) (sym is ∙ c.if-not-is_empty.false)
 
 pub returns : goal.returns
-unfolding vacuum_rule
 returns c =
-    let r = c.args.self.now in
-    sym (all_of r.set.modes (λ (k : ℕ). empty (modes_of r) k (value c.args.v.now)) (λ k h. c.loop-i.invariant k (omega arith)))
+    let here = λ (k : ℕ). empty (modes_of c.args.self.now) k (value c.args.v.now) in
+    sym (c.loop-i.invariant ∙ all_none c.loop-i.i here (omega arith))
