@@ -38,7 +38,7 @@ pub fn trimmed(words: &[u64; 2], bits: usize) -> &[u64] {
 }
 
 // The rows of a set and its vacuum, as a call wrote them. The buffers are arrays of the function that makes the call,
-// and only lent here: with a struct that holds them the program was measured to take 44 KiB of stack more.
+// and only lent here: with a struct that holds them the program was measured to take up to 44 KiB of stack more.
 #[derive(Clone, Copy)]
 pub struct Rows<'a> {
     pub x: &'a [u64; 512],

@@ -16,6 +16,11 @@ use Rattle.majorana.proofs.WalkLaws.{empty_told}
 use Rattle.majorana.proofs.CodeSteps.{step_none, step_skip, step_take, step_refuse, phase_none, phase_next, counted}
 use Rattle.majorana.proofs.coding.occupy_all.Goals as goal
 
+-- the column of the list that is read is the mode's
+read_at : (ls : List ℕ) (j k : ℕ) (b : Bool) → j ≡ k → b ≡ column ls j → eqb (bit (value ls) k) 1 ≡ b
+unfolding column
+read_at ls j k b e h = sym (h ∙ ap (λ (i : ℕ). eqb (bit (value ls) i) 1) e)
+
 pub loop-k-init : goal.loop-k-init
 unfolding encode
 loop-k-init c =
@@ -31,7 +36,7 @@ returns-then-not-is_empty c =
     let a = c.args in
     let m = modes_of a.rows.now in
     let l = c.loop-k in
-    let taken : eqb (bit (value a.list.now) (l.k - 1)) 1 ≡ c.get_index.result = sym c.get_index.ensures in
+    let taken : eqb (bit (value a.list.now) (l.k - 1)) 1 ≡ c.get_index.result = read_at _ _ _ _ (omega arith) c.get_index.ensures in
     let vacant : empty m (l.k - 1) (value l.s) ≡ c.is_empty.result =
     sym (c.is_empty.ensures ∙ ap (empty_by c.act-t.result) c.difference.ensures ∙ empty_told c.act-t.ensures.0) in
     let none : c.is_empty.result ≡ false = c.if-not-is_empty.true in
@@ -44,7 +49,7 @@ loop-k-preserved-then-get_index c =
     let m = modes_of args.rows.now in
     let l = c.loop-k in
     let a = c.act-t in
-    let taken : eqb (bit (value args.list.now) (l.k - 1)) 1 ≡ c.get_index.result = sym c.get_index.ensures in
+    let taken : eqb (bit (value args.list.now) (l.k - 1)) 1 ≡ c.get_index.result = read_at _ _ _ _ (omega arith) c.get_index.ensures in
     let vacant : empty m (l.k - 1) (value l.s) ≡ c.is_empty.result =
     sym (c.is_empty.ensures ∙ ap (empty_by a.result) c.difference.ensures ∙ empty_told a.ensures.0) in
     let turned = phase_next (lo m (l.k - 1)) (value l.s) l.f.power c.add-f.result.power l.fold a.result.first (rw c.row.ensures.phase at c.add-f.ensures) a.ensures.0.first in (
@@ -59,7 +64,7 @@ loop-k-preserved c =
     let a = c.args in
     let m = modes_of a.rows.now in
     let l = c.loop-k in
-    let taken : eqb (bit (value a.list.now) (l.k - 1)) 1 ≡ c.get_index.result = sym c.get_index.ensures in (
+    let taken : eqb (bit (value a.list.now) (l.k - 1)) 1 ≡ c.get_index.result = read_at _ _ _ _ (omega arith) c.get_index.ensures in (
       l.invariant.0,
       sym (step_skip m (value a.list.now) l.k (done (value l.s) ((l.f.power + 2 * ones l.fold) % 4)) (omega arith) (taken ∙ c.if-get_index.false))
           ∙ l.invariant.1,
