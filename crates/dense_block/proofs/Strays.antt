@@ -1,5 +1,5 @@
 -- Columns at or above a bound: the rest of one word, or a word above it. A row without them is a number below 2 ^ q. Which rows of a block have none.
-use Rattle.std.proofs.Common.{◌≡◌, ℕ, zero, suc, ◌+◌, ◌-◌, ◌*◌, ◌/◌, ◌%◌, ◌^◌, ◌<◌, ◌≤◌, min, Bool, true, false, not, ◌||◌, eqb, ltb, List, [], ◌∷◌, length, get_or, drop, sym, refl, ap, ◌∙◌, lt_of_lt_of_le, mul-le-mul_right, div-lt_iff_lt-mul, add-mul, one-mul, mul-zero, zero-add, arith, length-drop, drop_of_length-le, length-take, pow_pos, pow_mono, ne_eqb, ltb-false, le-ltb, lt-ltb}
+use Rattle.std.proofs.Common.{◌≡◌, ℕ, zero, suc, ◌+◌, ◌-◌, ◌*◌, ◌/◌, ◌%◌, ◌^◌, ◌<◌, ◌≤◌, min, Bool, true, false, not, ◌||◌, eqb, ltb, List, [], ◌∷◌, length, get_or, drop, sym, refl, ap, ◌∙◌, lt_of_lt_of_le, mul-le-mul_right, div-lt_iff_lt-mul, add-mul, one-mul, mul-zero, mul-suc, zero-add, arith, length-drop, drop_of_length-le, length-take, pow_pos, pow_mono, ne_eqb, ltb-false, le-ltb, lt-ltb}
 use Rattle.std.specs.List.{list_any}
 use native.Mathlib.Decide.{dec_lt}
 use lib.Bits.{bit_or, and_le_l, or_zero_r, or_add_and, or_shr}
@@ -77,12 +77,20 @@ ends_below ws q h l = no_strays ws q (lt_of_lt_of_le (value_below ws h) (pow_mon
 pub narrow : (w : ℕ) (ws : List ℕ) (k q : ℕ) → Words ws → w ≤ q / 64 → strays (term_of w ws k) q ≡ false
 narrow w ws k q h l = ends_below (term_of w ws k) q (words_term w ws k h) (omega (arith, length-take w (drop (k * w) ws)))
 
+-- a row that starts at the end, or past it, has no words
+ended : (w : ℕ) (ws : List ℕ) (k q : ℕ) → length ws ≤ k * w → strays (term_of w ws k) q ≡ false
+ended w ws k q h = rw (drop_of_length-le ws h, take-nil w) (no_strays [] q (pow_pos q))
+
+-- rows past the end have no words
+pub beyond : (w : ℕ) (ws : List ℕ) (k q : ℕ) → length ws ≤ k → strays (term_of w ws k) q ≡ false
+beyond zero ws k q h = no_strays [] q (pow_pos q)
+beyond (suc w) ws k q h = ended (suc w) ws k q (omega (arith, mul-suc k w))
+
 -- rows past one that is cut off have no words
-pub beyond : (w : ℕ) (ws : List ℕ) (k j q : ℕ) → length ws < k * w + w → k < j → strays (term_of w ws j) q ≡ false
-beyond w ws k j q h l =
+pub after_cut : (w : ℕ) (ws : List ℕ) (k j q : ℕ) → length ws < k * w + w → k < j → strays (term_of w ws j) q ≡ false
+after_cut w ws k j q h l =
     let up : k + 1 ≤ j = omega arith in
-    let far : length ws ≤ j * w = omega (arith, mul-le-mul_right w up, add-mul k 1 w, one-mul w) in
-    rw (drop_of_length-le ws far, take-nil w) (no_strays [] q (pow_pos q))
+    ended w ws j q (omega (arith, mul-le-mul_right w up, add-mul k 1 w, one-mul w))
 
 -- rows that end in the word of column q: that word decides, and a row that is cut off ends before it
 module _ (w : ℕ) (ws : List ℕ) (q : ℕ) (h : Words ws) (e : w ≡ q / 64 + 1) where

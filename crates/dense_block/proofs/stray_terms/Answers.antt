@@ -4,7 +4,7 @@ use lib.Seq.{drop-drop}
 use Rattle.std.proofs.lemmas.List.{take_all}
 use Rattle.refusal.proofs.Searches.{some_of, none_at, none_next, some_none, some_only}
 use Rattle.dense_block.specs.Words.{term_of, strays, strays_in}
-use Rattle.dense_block.proofs.Strays.{beyond}
+use Rattle.dense_block.proofs.Strays.{after_cut}
 use Rattle.dense_block.proofs.stray_terms.Goals as goal
 
 pub loop-init : goal.loop-init
@@ -24,7 +24,7 @@ returns-then-rest-width c =
     let left = ap (λ (t : List ℕ). length t) l.invariant.0 ∙ length-drop (l.counter * a.width) a.x.now in
     c.stray.ensures
     ∙ ap (λ (t : List ℕ). strays t a.q) row
-    ∙ sym (some_only a.count (λ (j : ℕ). let a = c.args in strays (term_of a.width a.x.now j) a.q) l.counter c.loop-test.true (none_at l.counter (λ (j : ℕ). let a = c.args in strays (term_of a.width a.x.now j) a.q) l.invariant.1) (λ j g. beyond a.width a.x.now l.counter j a.q (omega (arith, left, c.if-rest-width.true)) g))
+    ∙ sym (some_only a.count (λ (j : ℕ). let a = c.args in strays (term_of a.width a.x.now j) a.q) l.counter c.loop-test.true (none_at l.counter (λ (j : ℕ). let a = c.args in strays (term_of a.width a.x.now j) a.q) l.invariant.1) (λ j g. after_cut a.width a.x.now l.counter j a.q (omega (arith, left, c.if-rest-width.true)) g))
 
 pub returns-then-stray : goal.returns-then-stray
 unfolding strays_in
